@@ -21,3 +21,6 @@ pub use list::List;
 pub use rank::{Rank, sort_by_rank};
 pub use reserved::{CONTEXT_END, HOLE, KEY_END, TOKEN_SEPARATOR, first_reserved};
 pub use text::Text;
+
+#[cfg(test)]
+mod tests;

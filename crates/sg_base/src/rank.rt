@@ -1,5 +1,6 @@
 //! The order of rows.
 ghost use Rattle.std.specs.Prelude.{◌≡◌, OnOk, OnErr};
+ghost use Rattle.std.specs.List.Sorted.{IsPermutation, IsSorted};
 ghost use Rattle.std.proofs.Common.{rules};
 ghost use Rattle.std.specs.Cmp.{partial_order_from_own_ties};
 ghost use Rattle.std.specs.Cmp.Rules.{comparing};
@@ -55,6 +56,8 @@ impl PartialOrd for Rank {
 /// Sorts ranks, the first row first, in n log n comparisons.
 pub fn sort_by_rank(ranks: &mut Vec<Rank>) -> Result<(), AllocError>
     ensures ok { OnOk result (ranks.new.items ≡ in_order rank_cmp ranks.old.items) }
+    ensures permutation { IsPermutation ranks.old.items ranks.new.items }
+    ensures sorted { OnOk result (IsSorted rank_cmp ranks.new.items) }
     ensures err { OnErr result (ranks.new.items ≡ ranks.old.items) }
 {
     ranks.sort()
