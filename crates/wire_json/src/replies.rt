@@ -35,12 +35,18 @@ impl Model for OutRow {
 #[derive(Debug, Drop)]
 pub enum Reply {
     /// An accepted operation, with its sequence number.
-    Seq { line: u64, seq: u64 },
+    Seq {
+        line: u64,
+        seq: u64,
+    },
     /// The rows of a query, in their order, over the first `upto` operations.
     Rows {
         line: u64,
         upto: u64,
         rows: List<OutRow>,
     },
-    Error { line: u64, error: ErrorKind },
+    Error {
+        line: u64,
+        error: ErrorKind,
+    },
 }

@@ -45,12 +45,7 @@ fn numbered_value(alloc: Global, line: u64, seq: u64) -> Result<Value, AllocErro
     json!(in alloc; {"line": line, "seq": seq})
 }
 
-fn rows_value(
-    alloc: Global,
-    line: u64,
-    upto: u64,
-    rows: &[OutRow],
-) -> Result<Value, AllocError>
+fn rows_value(alloc: Global, line: u64, upto: u64, rows: &[OutRow]) -> Result<Value, AllocError>
     ensures { IfOk result (λ v. view v ≡ rows_data line upto rows.now) }
 {
     let rows = Value::Array(row_values(alloc, rows)?);

@@ -1,0 +1,44 @@
+-- Bytes that move over the edge, and the faults that are counted there. Source: this project's own.
+use Rattle.std.specs.Prelude.{◌≡◌, ◌≤◌, ◌<◌, ◌+◌, ◌-◌, ◌^◌, ◌++◌, ◌==◌, ℕ, min, List, []}
+use Rattle.std.specs.Prelude.{Option, Some, None, option_map, Result, Ok, Err, Bool, false, ⊤}
+
+-- these bytes in front of what is there, where that is told
+abbrev pub in_front : List ℕ → Option (List ℕ) → Option (List ℕ)
+in_front bytes = option_map (λ rest. bytes ++ rest)
+
+-- these bytes behind what is there, where that is told
+abbrev pub behind : List ℕ → Option (List ℕ) → Option (List ℕ)
+behind bytes = option_map (λ front. front ++ bytes)
+
+-- no bytes are there, where that is told
+abbrev pub NothingLeft : Option (List ℕ) → Type 0
+NothingLeft None = ⊤
+NothingLeft (Some bytes) = bytes ≡ []
+
+-- whether a take answered that it moved nothing
+abbrev pub is_end : {E : Type 0} → Result ℕ E → Bool
+is_end (Ok n) = n == 0
+is_end (Err e) = false
+
+-- a take moves 0 bytes into a piece that isn't empty only where nothing is left
+abbrev pub EndsHonestly : {E : Type 0} → Option (List ℕ) → ℕ → Result ℕ E → Type 0
+EndsHonestly left room (Ok n) = n ≡ 0 → 0 < room → NothingLeft left
+EndsHonestly left room (Err e) = ⊤
+
+-- where a count of faults or of calls stands still
+abbrev pub greatest_count : ℕ
+greatest_count = 2 ^ 64 - 1
+
+-- a count with one more in it
+abbrev pub counted : ℕ → ℕ
+counted n = min (n + 1) greatest_count
+
+-- the count rose in between, as one at its greatest is taken to have done
+pub record Rose (before now : ℕ) : Type 0 where
+  pub never_less : before ≤ now
+  pub more : before < greatest_count → before < now
+
+-- a take fails only where the count of faults rose, and an Ok leaves it
+abbrev pub TakeCause : {T E : Type 0} → ℕ → ℕ → Result T E → Type 0
+TakeCause before now (Ok value) = now ≡ before
+TakeCause before now (Err error) = Rose before now

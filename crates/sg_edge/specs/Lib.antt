@@ -1,0 +1,5 @@
+pub mod Edge
+pub mod Puts
+pub mod MemorySources
+pub mod MemorySinks
+pub mod StdEnds

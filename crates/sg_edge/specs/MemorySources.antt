@@ -1,0 +1,33 @@
+-- A source in memory: what it holds, and what its next take moves. Source: this project's own.
+use Rattle.std.specs.Prelude.{◌≡◌, ◌==◌, ℕ, List, [], ◌∷◌, Bool, take, if◌then◌else◌}
+use Rattle.sg_edge.specs.Edge.{counted}
+
+-- the bytes that are left, how they are given, which calls fail, and what was counted
+pub record SourceInMemory : Type 0 where
+  pub left : List ℕ
+  pub by_line : Bool
+  pub fails : List ℕ
+  pub calls : ℕ
+  pub faults : ℕ
+  pub ended : Bool
+
+-- whether the byte ends a line
+abbrev pub is_line_feed : ℕ → Bool
+is_line_feed byte = byte == 10
+
+-- the bytes through the first line feed, or all of them
+abbrev pub through_line_feed : List ℕ → List ℕ
+through_line_feed [] = []
+through_line_feed (byte ∷ bytes) =
+    if is_line_feed byte then byte ∷ [] else byte ∷ through_line_feed bytes
+
+-- of the bytes that are left, those that a take moves into so much room
+abbrev pub next_bytes : Bool → ℕ → List ℕ → List ℕ
+next_bytes by_line room left =
+    if by_line then through_line_feed (take room left) else take room left
+
+-- one call was counted, and the next goes by the same lists
+pub record IsAtNextCall (old new : SourceInMemory) : Type 0 where
+  pub calls : new.calls ≡ counted old.calls
+  pub by_line : new.by_line ≡ old.by_line
+  pub fails : new.fails ≡ old.fails

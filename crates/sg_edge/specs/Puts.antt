@@ -1,0 +1,11 @@
+-- What an answer of a put says of the count of faults. Source: this project's own.
+use Rattle.std.specs.Prelude.{◌≡◌, ℕ, Result, Ok, Err}
+use Rattle.sg_edge.specs.Edge.{Rose}
+use Rattle.sg_edge.specs.declared.sink.PutError.{PutError}
+use Rattle.sg_edge.specs.declared.sink.PutError.TheVariants.{Failed, Memory}
+
+-- a put fails only where the count of faults rose, and an Ok and want of memory leave it
+abbrev pub PutCause : {T : Type 0} → ℕ → ℕ → Result T PutError → Type 0
+PutCause before now (Ok value) = now ≡ before
+PutCause before now (Err Failed) = Rose before now
+PutCause before now (Err Memory) = now ≡ before

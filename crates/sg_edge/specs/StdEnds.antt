@@ -1,0 +1,11 @@
+-- What a source over a reader and a sink over a writer count. Source: this project's own.
+use Rattle.std.specs.Prelude.{ℕ, Bool}
+
+-- how many faults the reader met, and whether it ended
+pub record SourceOverReader : Type 0 where
+  pub faults : ℕ
+  pub ended : Bool
+
+-- how many faults the writer met
+pub record SinkOverWriter : Type 0 where
+  pub faults : ℕ

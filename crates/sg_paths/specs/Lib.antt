@@ -1,0 +1,4 @@
+pub mod Documents
+pub mod Operations
+pub mod LiveDocuments
+pub mod Paths

@@ -1,0 +1,93 @@
+//! The live documents of a journal by the plain program, and what deletes and updates reach.
+ghost use Rattle.std.specs.Prelude.{◌≡◌, ◌++◌, map, length, OnOk, IfOk};
+ghost use Rattle.std.specs.Option.{option_copied};
+ghost use Rattle.std.specs.List.{list_any};
+ghost use Rattle.sg_paths.specs.Operations.{operation_of, added_document};
+ghost use Rattle.sg_paths.specs.LiveDocuments.{same_id, deletes_id, live_documents, live_of, ReachesEarlierDocumentsOnly, LeavesItsOwnDocumentAlone};
+
+use crate::document::Document;
+use crate::op::{Numbered, Op};
+use sg_base::Text;
+use std::alloc::{AllocError, Global};
+
+fn are_same_id(one: &Text, other: &Text) -> bool
+    ensures { result ≡ same_id one.now other.now }
+{
+    one.as_str().as_bytes() == other.as_str().as_bytes()
+}
+
+fn document_of(op: &Op) -> Option<&Document>
+    ensures { option_copied result ≡ added_document (operation_of op.now) }
+{
+    match op {
+        Op::Add(document) => Some(document),
+        Op::Update(document) => Some(document),
+        Op::Delete(_) => None,
+    }
+}
+
+fn deletes(op: &Op, id: &Text) -> bool
+    ensures { result ≡ deletes_id id.now (operation_of op.now) }
+{
+    match op {
+        Op::Add(_) => false,
+        Op::Update(document) => are_same_id(id, &document.id),
+        Op::Delete(deleted) => are_same_id(id, deleted),
+    }
+}
+
+fn any_deletes(ops: &[Op], id: &Text) -> bool
+    ensures { result ≡ list_any (deletes_id id.now) (map operation_of ops.now) }
+{
+    for op in ops {
+        if deletes(op, id) {
+            return true;
+        }
+    }
+    false
+}
+
+fn add_if_live(
+    alloc: Global,
+    live: &mut Vec<Numbered>,
+    seq: u64,
+    op: &Op,
+    later: &[Op],
+) -> Result<(), AllocError>
+    ensures { OnOk result (live.new.items ≡ live.old.items
+        ++ live_of seq (operation_of op.now) (map operation_of later.now)) }
+{
+    let Some(document) = document_of(op) else {
+        return Ok(());
+    };
+    if any_deletes(later, &document.id) {
+        return Ok(());
+    }
+    live.push(Numbered {
+        seq,
+        document: document.copy(alloc)?,
+    })?;
+    Ok(())
+}
+
+/// The live documents after all operations of a journal, by number, copied: in quadratic time.
+pub fn live_documents_of(alloc: Global, journal: &[Op]) -> Result<Vec<Numbered>, AllocError>
+    ensures { IfOk result (λ live. live.items
+        ≡ live_documents (map operation_of journal.now) (length journal.now)) }
+{
+    let mut live = Vec::new(alloc);
+    for (i, op) in journal.iter().enumerate() {
+        add_if_live(alloc, &mut live, i as u64 + 1, op, &journal[i + 1..])?;
+    }
+    Ok(live)
+}
+
+/// A delete reaches only documents with a smaller number than its own, and so does an update.
+pub fn deletes_reach_earlier_documents_only()
+    ensures { ReachesEarlierDocumentsOnly }
+{}
+
+/// An update that meets its own id leaves one live document with that id: its own.
+pub fn an_update_leaves_its_own_document_alone()
+    ensures { LeavesItsOwnDocumentAlone }
+{}

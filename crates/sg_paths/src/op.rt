@@ -1,0 +1,54 @@
+//! Operations.
+ghost use Rattle.std.specs.Prelude.{◌≡◌};
+
+use crate::document::Document;
+use sg_base::{List, Text};
+use std::marker::Model;
+
+/// What the index is asked to do. A delete and an update reach the documents with the id that were
+/// added before them; an update adds its document too, in the same operation.
+#[derive(Debug, Drop)]
+pub enum Op {
+    Add(Document),
+    Update(Document),
+    /// The id.
+    Delete(Text),
+}
+
+/// Consecutive operations.
+#[derive(Debug, Drop)]
+pub struct Batch {
+    /// The number of the first, from 1.
+    pub from: u64,
+    /// The number of the last.
+    pub upto: u64,
+    pub ops: List<Op>,
+}
+
+impl Model for Batch {
+    ghost use Rattle.std.specs.Prelude.{map};
+    ghost use Rattle.sg_paths.specs.Operations.{PlainBatch, operation_of};
+
+    ghost Value = { PlainBatch };
+
+    ghost view = { λ b. record {
+      from = b.from;
+      upto = b.upto;
+      operations = map operation_of b.ops.items;
+    } };
+}
+
+/// A document with the number of the operation that added it, from 1.
+#[derive(Debug, Drop)]
+pub struct Numbered {
+    pub seq: u64,
+    pub document: Document,
+}
+
+impl Model for Numbered {
+    ghost use Rattle.sg_paths.specs.Operations.{NumberedDocument};
+
+    ghost Value = { NumberedDocument };
+
+    ghost view = { λ n. record { seq = n.seq; document = n.document } };
+}

@@ -1,0 +1,4 @@
+pub mod LineLemmas
+pub mod MoveLemmas
+pub mod RunLemmas
+pub mod EndLemmas

@@ -1,0 +1,40 @@
+//! The lines of an input.
+ghost use Rattle.std.specs.Prelude.{◌≡◌, ◌<◌, ◌∷◌, [], IfSome, MatchOption, length};
+ghost use Rattle.std.specs.List.{position_from};
+ghost use Rattle.sg_shell.specs.Lines.{lines_of, is_line_feed};
+
+/// A line, without its line feed, and what stands after it.
+#[derive(Clone, Copy)]
+pub struct Split<'b> {
+    pub line: &'b [u8],
+    pub rest: &'b [u8],
+}
+
+fn line_feed_at(bytes: &[u8]) -> Option<usize>
+    ensures first { result ≡ position_from is_line_feed 0 bytes.now }
+    ensures within { IfSome result (λ at. at < length bytes.now) }
+{
+    bytes.iter().position(|byte| *byte == b'\n')
+}
+
+/// The first line, where there is one. A last line without a line feed counts where it isn't empty.
+pub fn first_line(bytes: &[u8]) -> Option<Split<'_>>
+    ensures first { MatchOption result
+        (lines_of bytes.entry.now ≡ [])
+        (λ s. lines_of bytes.entry.now ≡ s.line.now ∷ lines_of s.rest.now) }
+    ensures shorter { IfSome result (λ s. length s.rest.now < length bytes.entry.now) }
+{
+    if bytes.is_empty() {
+        return None;
+    }
+    match line_feed_at(bytes) {
+        Some(at) => Some(Split {
+            line: &bytes[..at],
+            rest: &bytes[at + 1..],
+        }),
+        None => Some(Split {
+            line: bytes,
+            rest: &bytes[bytes.len()..],
+        }),
+    }
+}

@@ -1,0 +1,40 @@
+//! The replies to an input.
+ghost use Rattle.std.specs.Prelude.{◌≡◌, ◌≤◌, ◌<◌, ◌+◌, ◌^◌, ◌++◌, OnOk, IfOk, length, option_map};
+ghost use Rattle.std.specs.Option.{option_to_list};
+ghost use Rattle.wire_json.specs.ReplyForms.{plain_reply};
+ghost use Rattle.sg_shell.specs.Runs.{text_of, output_of};
+
+use crate::engine::Store;
+use crate::lines::first_line;
+use std::alloc::{AllocError, Global};
+use wire_json::{Reply, reply};
+
+fn push_reply(alloc: Global, output: &mut Vec<u8>, answer: Option<Reply>) -> Result<(), AllocError>
+    ensures { OnOk result (output.new.items
+        ≡ output.old.items ++ text_of (option_to_list (option_map plain_reply answer))) }
+{
+    if let Some(answer) = answer {
+        let line = reply(alloc, &answer)?;
+        output.extend_from_slice(line.as_slice())?;
+    }
+    Ok(())
+}
+
+/// The replies to the lines of an input, in order. Time and memory are linear in the input and the
+/// output, beside what each query takes.
+pub fn replies_to(alloc: Global, input: &[u8]) -> Result<Vec<u8>, AllocError>
+    requires { length input.now ≤ 2 ^ 30 }
+    ensures { IfOk result (λ output. output.items ≡ output_of input.now) }
+{
+    let mut store = Store::new(alloc);
+    let mut output = Vec::new(alloc);
+    let mut number = 0u64;
+    let mut rest = input;
+    while let Some(split) = first_line(rest) {
+        rest = split.rest;
+        number += 1;
+        let answer = store.answer(alloc, number, split.line)?;
+        push_reply(alloc, &mut output, answer)?;
+    }
+    Ok(output)
+}

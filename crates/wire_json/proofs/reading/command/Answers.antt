@@ -1,0 +1,32 @@
+use Rattle.std.proofs.Common.{◌≡◌, Some, None, sym, ◌∙◌, IfOk, IfErr, subst}
+use Rattle.std.proofs.lemmas.Result.{IfOk-weaker}
+use Rattle.serde_json.specs.View.{view}
+use Rattle.wire_json.specs.Commands.{Command, command_of, command_of_value}
+use Rattle.wire_json.specs.CommandForms.{plain_command, Refuses}
+use Rattle.wire_json.proofs.CommandLemmas.{value_of-read, value_of-unread, command_of-filled}
+use Rattle.wire_json.proofs.reading.command.Goals as goal
+
+pub returns-in-Ok-clause-ok : goal.returns-in-Ok-clause-ok
+returns-in-Ok-clause-ok c =
+    let filled = sym c.is_a_blank.ensures ∙ c.if-is_a_blank.false in
+    let is = command_of-filled c.args.analyzer.now c.args.line.now _ filled
+    (value_of-read c.args.line.now _ c.in-Ok.ensures.ok.0 c.in-Ok.ensures.ok.1) in
+    IfOk-weaker c.command_by_value.result _ _ (λ a h. sym is ∙ h) c.command_by_value.ensures.ok
+
+pub returns-in-Ok-clause-refused : goal.returns-in-Ok-clause-refused
+returns-in-Ok-clause-refused c =
+    let filled = sym c.is_a_blank.ensures ∙ c.if-is_a_blank.false in
+    let is = command_of-filled c.args.analyzer.now c.args.line.now _ filled
+    (value_of-read c.args.line.now _ c.in-Ok.ensures.ok.0 c.in-Ok.ensures.ok.1) in
+    let P : Command → Type 0 = λ p. IfErr c.command_by_value.result (Refuses p) in
+    subst P is c.command_by_value.ensures.refused
+
+pub returns-in_default : goal.returns-in_default
+returns-in_default c =
+    let filled = sym c.is_a_blank.ensures ∙ c.if-is_a_blank.false in
+    let unread = value_of-unread c.args.line.now
+    (c.in-Err.ensures.err (λ m. c.in_default.not-Memory (c.classify.ensures.memory.1 m))) in
+    record {
+      ok = tt;
+      refused = sym (command_of-filled c.args.analyzer.now c.args.line.now None filled unread);
+    }
