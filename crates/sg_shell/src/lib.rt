@@ -19,3 +19,6 @@ pub use replying::replies_to;
 pub use running::run;
 pub use status::Status;
 pub use writing::write_all;
+
+#[cfg(test)]
+mod input_tests;

@@ -1,10 +1,14 @@
 -- The code's commands as plain data.
-use Rattle.std.specs.Prelude.{◌≡◌, ℕ, List, Result, Ok, Err, ⊤}
+use Rattle.std.specs.Prelude.{◌≡◌, ℕ, List, Option, Some, None, ⊤}
+use Rattle.sg_paths.specs.Documents.{PlainDocument}
 use Rattle.sg_paths.specs.Operations.{operation_of}
+use Rattle.sg_analysis.specs.declared.analyzer.Analyzer.{Analyzer}
 use Rattle.wire_json.specs.Commands as plain
+use Rattle.wire_json.specs.Commands.{input_key}
+use Rattle.wire_json.specs.Forms.{Entry}
 use Rattle.sg_analysis.specs.declared.analyzer.KeyError.{KeyError}
 use Rattle.sg_analysis.specs.declared.analyzer.KeyError.TheVariants as analyzer
-use Rattle.wire_json.specs.declared.replies.ErrorKind.TheVariants.{Key}
+use Rattle.wire_json.specs.declared.replies.ErrorKind.TheVariants.{Json, Shape, Key, Full}
 use Rattle.wire_json.specs.declared.commands.Command.{Command}
 use Rattle.wire_json.specs.declared.commands.Command.TheVariants.{Blank, Accept, Suggest}
 use Rattle.wire_json.specs.declared.commands.LineError.{LineError}
@@ -26,3 +30,17 @@ error_of (analyzer.Reserved byte at) = Refused Key
 error_of analyzer.Empty = Refused Key
 error_of (analyzer.TooLong bytes) = Refused Key
 error_of analyzer.Memory = Memory
+
+-- a text without a key is refused for that; want of memory may come at any text
+abbrev pub RefusesText : Option (List ℕ) → LineError → Type 0
+RefusesText k (Refused Key) = k ≡ None
+RefusesText k (Refused Json) = ⊥
+RefusesText k (Refused Shape) = ⊥
+RefusesText k (Refused Full) = ⊥
+RefusesText k Memory = ⊤
+
+-- it is the document of an entry, under the key of its input
+pub record IsDocumentOf (analyzer : Analyzer) (e : Entry) (d : PlainDocument) : Type 0 where
+  pub key : List ℕ
+  pub of_input : input_key analyzer e.input ≡ Some key
+  pub document : d ≡ plain.document_of e key

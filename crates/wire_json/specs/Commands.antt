@@ -7,9 +7,9 @@ use Rattle.serde_json.specs.Read.{read}
 use Rattle.sg_analysis.specs.Analysis.{Analysis, reserved, empty, too_long, key, analysis_of}
 use Rattle.sg_analysis.specs.declared.analyzer.Analyzer.{Analyzer}
 use Rattle.sg_paths.specs.Documents.{PlainSuggestion, PlainDocument}
-use Rattle.sg_paths.specs.Operations.{Operation, adds, operation_of}
+use Rattle.sg_paths.specs.Operations.{Operation, adds, updates, deletes}
 use Rattle.sg_paths.specs.declared.limits.TheConstants.{MOST_TEXT_BYTES}
-use Rattle.wire_json.specs.Forms.{Form, add, suggest, form_of}
+use Rattle.wire_json.specs.Forms.{Entry, Form, add, update, delete, suggest, form_of}
 use Rattle.wire_json.specs.declared.commands.TheConstants.{MOST_BLANK_BYTES}
 use Rattle.wire_json.specs.declared.replies.ErrorKind.{ErrorKind}
 use Rattle.wire_json.specs.declared.replies.ErrorKind.TheVariants.{Json, Shape, Key}
@@ -22,39 +22,48 @@ pub data Command : Type 0 where
   refused : ErrorKind → Command
 
 -- a document with one suggestion and no contexts
-abbrev pub document_of_one : List ℕ → List ℕ → List ℕ → ℕ → PlainDocument
-document_of_one id text k weight =
-    record { id = id; suggestions = record { text = text; key = k; weight = weight; contexts = [] } ∷ [] }
+abbrev pub document_of : Entry → List ℕ → PlainDocument
+document_of e k = record {
+  id = e.id;
+  suggestions = record { text = e.input; key = k; weight = e.weight; contexts = [] } ∷ [];
+}
 
--- an add, by the analysis of its input
-abbrev pub add_command : List ℕ → List ℕ → ℕ → Analysis → Command
-add_command id text weight (reserved byte at) = refused Key
-add_command id text weight empty = refused Key
-add_command id text weight (too_long bytes) = refused Key
-add_command id text weight (key k) = accepts (adds (document_of_one id text k weight))
+-- the key of a text, if it has one and the text has at most 1,024 bytes
+abbrev pub key_of : List ℕ → Analysis → Option (List ℕ)
+key_of text (reserved byte at) = None
+key_of text empty = None
+key_of text (too_long bytes) = None
+key_of text (key k) = if nat_le (length text) MOST_TEXT_BYTES then Some k else None
 
--- a query, by the analysis of its prefix
-abbrev pub suggest_command : Analysis → Command
-suggest_command (reserved byte at) = refused Key
-suggest_command empty = refused Key
-suggest_command (too_long bytes) = refused Key
-suggest_command (key k) = suggests k
+-- a command that needs a key
+abbrev pub with_key : Option (List ℕ) → (List ℕ → Command) → Command
+with_key None command = refused Key
+with_key (Some k) command = command k
 
--- a text of at most 1,024 bytes goes on, a longer one is refused
-abbrev pub unless_long : List ℕ → Command → Command
-unless_long text command = if nat_le (length text) MOST_TEXT_BYTES then command else refused Key
+-- the key of an input, which is analysed with the cut
+abbrev pub input_key : Analyzer → List ℕ → Option (List ℕ)
+input_key analyzer text = key_of text (analysis_of analyzer text true)
 
--- inputs are analysed with the cut, prefixes without it
-abbrev pub command_of_form : Analyzer → Option Form → Command
-command_of_form analyzer None = refused Shape
-command_of_form analyzer (Some (add id text weight)) =
-    unless_long text (add_command id text weight (analysis_of analyzer text true))
-command_of_form analyzer (Some (suggest prefix)) =
-    unless_long prefix (suggest_command (analysis_of analyzer prefix false))
+-- the key of a query's prefix, which is analysed without it
+abbrev pub prefix_key : Analyzer → List ℕ → Option (List ℕ)
+prefix_key analyzer text = key_of text (analysis_of analyzer text false)
+
+abbrev pub command_of_form : Analyzer → Form → Command
+command_of_form analyzer (add e) =
+    with_key (input_key analyzer e.input) (λ k. accepts (adds (document_of e k)))
+command_of_form analyzer (update e) =
+    with_key (input_key analyzer e.input) (λ k. accepts (updates (document_of e k)))
+command_of_form analyzer (delete id) = accepts (deletes id)
+command_of_form analyzer (suggest prefix) = with_key (prefix_key analyzer prefix) suggests
+
+-- a value without a form is refused
+abbrev pub command_by_form : Analyzer → Option Form → Command
+command_by_form analyzer None = refused Shape
+command_by_form analyzer (Some form) = command_of_form analyzer form
 
 abbrev pub command_of_value : Analyzer → Option Data → Command
 command_of_value analyzer None = refused Json
-command_of_value analyzer (Some d) = command_of_form analyzer (form_of d)
+command_of_value analyzer (Some d) = command_by_form analyzer (form_of d)
 
 -- a space, a tab or a carriage return
 abbrev pub is_blank_byte : ℕ → Bool

@@ -6,7 +6,7 @@ use Rattle.serde_json.specs.View.{items_of}
 use Rattle.serde_json.specs.Written.{compact_text}
 use Rattle.wire_json.specs.Rows.{Row}
 use Rattle.wire_json.specs.declared.replies.ErrorKind.{ErrorKind}
-use Rattle.wire_json.specs.declared.replies.ErrorKind.TheVariants.{Json, Shape, Key}
+use Rattle.wire_json.specs.declared.replies.ErrorKind.TheVariants.{Json, Shape, Key, Full}
 
 -- what a line is answered; the first number is the line's
 pub data Reply : Type 0 where
@@ -19,6 +19,7 @@ abbrev pub name_of : ErrorKind → List ℕ
 name_of Json = codes "json"
 name_of Shape = codes "shape"
 name_of Key = codes "key"
+name_of Full = codes "full"
 
 -- a whole number
 abbrev whole : ℕ → Data

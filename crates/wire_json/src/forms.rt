@@ -2,31 +2,53 @@
 ghost use Rattle.std.specs.Prelude.{◌≡◌, ◌≤◌, codes, option_map, option_and_then, IfSome};
 ghost use Rattle.serde_json.specs.View.{view};
 ghost use Rattle.serde_json.specs.Find.{as_array};
+ghost use Rattle.sg_base.specs.declared.limits.TheConstants.{MOST_WEIGHT};
 ghost use Rattle.wire_json.specs.Members.{member_of, text_of};
-ghost use Rattle.wire_json.specs.Forms.{form_of, form_by_op, has_no_unread_member, suggestion_of, add_of_suggestion, add_form, weight_or_one, is_id, suggest};
-ghost use Rattle.wire_json.specs.ReadForms.{plain_form, HasLimits};
+ghost use Rattle.wire_json.specs.Forms.{form_of, has_no_unread_member, suggestion_of, entry_of, entry_of_suggestion, entry_in, id_of, valid_id, weight_or_one, is_id};
+ghost use Rattle.wire_json.specs.Forms as plain;
+ghost use Rattle.wire_json.specs.ReadForms.{plain_entry, plain_form, HasIdBytes, IsEntry, IsForm};
 
 use crate::members::{member, only, text, whole};
 use serde_json::Value;
 use sg_base::{MOST_WEIGHT, Weight};
 use sg_paths::MOST_ID_BYTES;
 
-/// The texts and the weight of a line, still in its value.
+/// One suggestion under an id, still in a line's value.
+#[derive(Clone, Copy)]
+pub struct Entry<'v> {
+    pub id: &'v str,
+    pub input: &'v str,
+    pub weight: Weight,
+}
+
+/// What a line asks for, still in its value.
+#[derive(Clone, Copy)]
 pub enum Form<'v> {
-    Add {
-        id: &'v str,
-        input: &'v str,
-        weight: Weight,
-    },
-    Suggest {
-        prefix: &'v str,
-    },
+    Add { entry: Entry<'v> },
+    Update { entry: Entry<'v> },
+    Delete { id: &'v str },
+    Suggest { prefix: &'v str },
 }
 
 fn is_an_id(id: &str) -> bool
     ensures { result ≡ is_id id.now }
 {
     1 <= id.len() && id.len() <= MOST_ID_BYTES
+}
+
+fn unless_invalid(id: Option<&str>) -> Option<&str>
+    ensures id { option_map (λ s. s.now) result ≡ valid_id (option_map (λ s. s.now) id.entry) }
+    ensures limits { IfSome (option_map (λ s. s.now) result) HasIdBytes }
+{
+    let id = id?;
+    if is_an_id(id) { Some(id) } else { None }
+}
+
+fn id(value: &Value) -> Option<&str>
+    ensures id { option_map (λ s. s.now) result ≡ id_of (view value.now) }
+    ensures limits { IfSome (option_map (λ s. s.now) result) HasIdBytes }
+{
+    unless_invalid(text(value, "id"))
 }
 
 fn weight(suggestion: &Value) -> Option<Weight>
@@ -39,33 +61,35 @@ fn weight(suggestion: &Value) -> Option<Weight>
     }
 }
 
-fn add<'v>(id: Option<&'v str>, input: Option<&'v str>, weight: Option<Weight>) -> Option<Form<'v>>
-    requires { IfSome weight (λ w. w ≤ MOST_WEIGHT) }
-    ensures form { option_map plain_form result
-        ≡ add_form (option_map (λ s. s.now) id.entry) (option_map (λ s. s.now) input.entry) weight }
-    ensures limits { HasLimits (option_map plain_form result) }
+fn make_entry<'v>(
+    id: Option<&'v str>,
+    input: Option<&'v str>,
+    weight: Option<Weight>,
+) -> Option<Entry<'v>>
+    requires id_bytes { IfSome (option_map (λ s. s.now) id) HasIdBytes }
+    requires most_weight { IfSome weight (λ w. w ≤ MOST_WEIGHT) }
+    ensures entry { option_map plain_entry result
+        ≡ entry_of (option_map (λ s. s.now) id.entry) (option_map (λ s. s.now) input.entry) weight }
+    ensures limits { IfSome (option_map plain_entry result) IsEntry }
 {
     let (Some(id), Some(input), Some(weight)) = (id, input, weight) else {
         return None;
     };
-    if is_an_id(id) {
-        Some(Form::Add { id, input, weight })
-    } else {
-        None
-    }
+    Some(Entry { id, input, weight })
 }
 
-fn add_suggestion<'v>(id: Option<&'v str>, suggestion: Option<&'v Value>) -> Option<Form<'v>>
-    ensures form { option_map plain_form result
-        ≡ add_of_suggestion (option_map (λ s. s.now) id.entry)
-        (option_map (λ v. view v.now) suggestion.entry) }
-    ensures limits { HasLimits (option_map plain_form result) }
+fn entry_with<'v>(id: Option<&'v str>, suggestion: Option<&'v Value>) -> Option<Entry<'v>>
+    requires { IfSome (option_map (λ s. s.now) id) HasIdBytes }
+    ensures entry { option_map plain_entry result
+        ≡ entry_of_suggestion (option_map (λ s. s.now) id.entry)
+            (option_map (λ v. view v.now) suggestion.entry) }
+    ensures limits { IfSome (option_map plain_entry result) IsEntry }
 {
     let suggestion = suggestion?;
     if member(suggestion, "contexts").is_some() {
         return None;
     }
-    add(id, text(suggestion, "input"), weight(suggestion))
+    make_entry(id, text(suggestion, "input"), weight(suggestion))
 }
 
 fn one_suggestion(value: &Value) -> Option<&Value>
@@ -78,6 +102,13 @@ fn one_suggestion(value: &Value) -> Option<&Value>
     only(list.as_slice())
 }
 
+fn read_entry(value: &Value) -> Option<Entry<'_>>
+    ensures entry { option_map plain_entry result ≡ entry_in (view value.now) }
+    ensures limits { IfSome (option_map plain_entry result) IsEntry }
+{
+    entry_with(id(value), one_suggestion(value))
+}
+
 fn has_no_unread_member(value: &Value) -> bool
     ensures { result ≡ has_no_unread_member (view value.now) }
 {
@@ -87,10 +118,41 @@ fn has_no_unread_member(value: &Value) -> bool
         && member(value, "view").is_none()
 }
 
-fn query(value: &Value) -> Option<Form<'_>>
+fn add(value: &Value) -> Option<Form<'_>>
+    ensures form { option_map plain_form result ≡ option_map plain.add (entry_in (view value.now)) }
+    ensures limits { IfSome (option_map plain_form result) IsForm }
+{
+    match read_entry(value) {
+        Some(entry) => Some(Form::Add { entry }),
+        None => None,
+    }
+}
+
+fn update(value: &Value) -> Option<Form<'_>>
     ensures form { option_map plain_form result
-        ≡ option_map suggest (text_of (codes "prefix") (view value.now)) }
-    ensures limits { HasLimits (option_map plain_form result) }
+        ≡ option_map plain.update (entry_in (view value.now)) }
+    ensures limits { IfSome (option_map plain_form result) IsForm }
+{
+    match read_entry(value) {
+        Some(entry) => Some(Form::Update { entry }),
+        None => None,
+    }
+}
+
+fn delete(value: &Value) -> Option<Form<'_>>
+    ensures form { option_map plain_form result ≡ option_map plain.delete (id_of (view value.now)) }
+    ensures limits { IfSome (option_map plain_form result) IsForm }
+{
+    match id(value) {
+        Some(id) => Some(Form::Delete { id }),
+        None => None,
+    }
+}
+
+fn suggest(value: &Value) -> Option<Form<'_>>
+    ensures form { option_map plain_form result
+        ≡ option_map plain.suggest (text_of (codes "prefix") (view value.now)) }
+    ensures limits { IfSome (option_map plain_form result) IsForm }
 {
     match text(value, "prefix") {
         Some(prefix) => Some(Form::Suggest { prefix }),
@@ -101,14 +163,16 @@ fn query(value: &Value) -> Option<Form<'_>>
 /// The form of a line's value, if it has one.
 pub fn read_form(value: &Value) -> Option<Form<'_>>
     ensures form { option_map plain_form result ≡ form_of (view value.now) }
-    ensures limits { HasLimits (option_map plain_form result) }
+    ensures limits { IfSome (option_map plain_form result) IsForm }
 {
     if !has_no_unread_member(value) {
         return None;
     }
     match text(value, "op") {
-        Some("add") => add_suggestion(text(value, "id"), one_suggestion(value)),
-        Some("suggest") => query(value),
+        Some("add") => add(value),
+        Some("update") => update(value),
+        Some("delete") => delete(value),
+        Some("suggest") => suggest(value),
         _ => None,
     }
 }

@@ -1,21 +1,20 @@
 //! From a line to its command.
-ghost use Rattle.std.specs.Prelude.{◌≡◌, ◌<◌, ◌≤◌, true, false, nat_le, IfOk, IfErr, length, option_map, Some};
+ghost use Rattle.std.specs.Prelude.{◌≡◌, ◌<◌, ◌≤◌, nat_le, IsTrue, IfOk, IfErr, length, option_map, Some};
 ghost use Rattle.std.specs.List.{list_all};
 ghost use Rattle.serde_json.specs.View.{view};
-ghost use Rattle.sg_base.specs.declared.limits.TheConstants.{MOST_WEIGHT};
 ghost use Rattle.sg_analysis.specs.Analysis.{analysis_of};
-ghost use Rattle.sg_paths.specs.declared.limits.TheConstants.{MOST_TEXT_BYTES, MOST_ID_BYTES};
-ghost use Rattle.wire_json.specs.Forms.{form_of};
-ghost use Rattle.wire_json.specs.ReadForms.{plain_form, HasLimits};
-ghost use Rattle.wire_json.specs.Commands.{add_command, suggest_command, command_of_form, command_of_value, is_blank_byte, is_blank, command_of, document_of_one};
-ghost use Rattle.wire_json.specs.CommandForms.{plain_command, Refuses, error_of};
+ghost use Rattle.sg_paths.specs.Operations.{adds, updates, deletes};
+ghost use Rattle.sg_paths.specs.declared.limits.TheConstants.{MOST_TEXT_BYTES};
+ghost use Rattle.wire_json.specs.ReadForms.{plain_entry, plain_form, IsEntry, IsForm, HasIdBytes};
+ghost use Rattle.wire_json.specs.Commands.{key_of, input_key, accepts, command_of_form, command_by_form, command_of_value, document_of, is_blank_byte, is_blank, command_of};
+ghost use Rattle.wire_json.specs.CommandForms.{plain_command, Refuses, RefusesText, error_of, IsDocumentOf};
 
 use crate::commands::{Command, LineError, MOST_BLANK_BYTES};
-use crate::forms::{Form, read_form};
+use crate::forms::{Entry, Form, read_form};
 use crate::replies::ErrorKind;
 use serde_json::{Category, Value};
 use sg_analysis::{Analyzer, KeyError};
-use sg_base::{Key, Text, Weight};
+use sg_base::{Key, Text};
 use sg_paths::{Document, MOST_TEXT_BYTES, Op, Suggestion};
 use std::alloc::{AllocError, Global};
 
@@ -32,120 +31,120 @@ fn line_error(error: KeyError) -> LineError
     }
 }
 
-// A document with one suggestion and no contexts.
-fn document_of(
-    alloc: Global,
-    id: &str,
-    input: &str,
-    key: Key,
-    weight: Weight,
-) -> Result<Document, AllocError>
-    requires id_bytes { (0 < length id.now) × (length id.now ≤ MOST_ID_BYTES) }
-    requires text_bytes { length input.now ≤ MOST_TEXT_BYTES }
-    requires has_key { 0 < length key }
-    requires most_weight { weight ≤ MOST_WEIGHT }
-    ensures { IfOk result (λ d. d ≡ document_of_one id.now input.now key weight) }
+// The key of a text that isn't long. A long text isn't analysed.
+fn key(alloc: Global, analyzer: &Analyzer, text: &str, cut: bool) -> Result<Key, LineError>
+    ensures ok { IfOk result
+        (λ k. key_of text.now (analysis_of analyzer.now text.now cut) ≡ Some k) }
+    ensures refused { IfErr result
+        (RefusesText (key_of text.now (analysis_of analyzer.now text.now cut))) }
+    ensures filled { IfOk result (λ k. IsTrue cut → 0 < length k) }
+    ensures within { IfOk result (λ _. length text.now ≤ MOST_TEXT_BYTES) }
 {
-    let text = Text::of(alloc, input)?;
-    let Ok(suggestion) = Suggestion::new(text, key, weight, Vec::new(alloc)) else {
+    if text.len() > MOST_TEXT_BYTES {
+        return Err(LineError::Refused {
+            kind: ErrorKind::Key,
+        });
+    }
+    match analyzer.key(alloc, text, cut) {
+        Ok(key) => Ok(key),
+        Err(error) => Err(line_error(error)),
+    }
+}
+
+// A document with one suggestion and no contexts.
+fn make_document(alloc: Global, entry: Entry<'_>, key: Key) -> Result<Document, AllocError>
+    requires entry { IsEntry (plain_entry entry) }
+    requires text_bytes { length entry.input.now ≤ MOST_TEXT_BYTES }
+    requires has_key { 0 < length key }
+    ensures { IfOk result (λ d. d ≡ document_of (plain_entry entry.entry) key) }
+{
+    let text = Text::of(alloc, entry.input)?;
+    let Ok(suggestion) = Suggestion::new(text, key, entry.weight, Vec::new(alloc)) else {
         unreachable!();
     };
     let mut suggestions = Vec::with_capacity(alloc, 1)?;
     suggestions.push(suggestion)?;
-    let id = Text::of(alloc, id)?;
+    let id = Text::of(alloc, entry.id)?;
     let Ok(document) = Document::new(id, suggestions) else {
         unreachable!();
     };
     Ok(document)
 }
 
-fn add(
+// The document of an entry.
+fn document(alloc: Global, analyzer: &Analyzer, entry: Entry<'_>) -> Result<Document, LineError>
+    requires { IsEntry (plain_entry entry) }
+    ensures ok { IfOk result (λ d. IsDocumentOf analyzer.now (plain_entry entry.entry) d) }
+    ensures refused { IfErr result
+        (RefusesText (input_key analyzer.now entry.entry.input.now)) }
+{
+    let key = key(alloc, analyzer, entry.input, true)?;
+    match make_document(alloc, entry, key) {
+        Ok(document) => Ok(document),
+        Err(_) => Err(LineError::Memory),
+    }
+}
+
+fn delete(alloc: Global, id: &str) -> Result<Command, LineError>
+    ensures ok { IfOk result (λ c. accepts (deletes id.now) ≡ plain_command c) }
+    ensures refused { IfErr result (Refuses (accepts (deletes id.now))) }
+{
+    match Text::of(alloc, id) {
+        Ok(id) => Ok(Command::Accept {
+            op: Op::Delete(id),
+        }),
+        Err(_) => Err(LineError::Memory),
+    }
+}
+
+fn command_for(
     alloc: Global,
     analyzer: &Analyzer,
-    id: &str,
-    input: &str,
-    weight: Weight,
+    form: Form<'_>,
 ) -> Result<Command, LineError>
-    requires id_bytes { (0 < length id.now) × (length id.now ≤ MOST_ID_BYTES) }
-    requires text_bytes { length input.now ≤ MOST_TEXT_BYTES }
-    requires most_weight { weight ≤ MOST_WEIGHT }
-    ensures ok { IfOk result (λ c. add_command id.now input.now weight
-        (analysis_of analyzer.now input.now true) ≡ plain_command c) }
-    ensures refused { IfErr result (Refuses (add_command id.now input.now weight
-        (analysis_of analyzer.now input.now true))) }
+    requires { IsForm (plain_form form) }
+    ensures ok { IfOk result (λ c.
+        command_of_form analyzer.now (plain_form form.entry) ≡ plain_command c) }
+    ensures refused { IfErr result (Refuses
+        (command_of_form analyzer.now (plain_form form.entry))) }
 {
-    match analyzer.key(alloc, input, true) {
-        Ok(key) => match document_of(alloc, id, input, key, weight) {
+    match form {
+        Form::Add { entry } => match document(alloc, analyzer, entry) {
             Ok(document) => Ok(Command::Accept {
                 op: Op::Add(document),
             }),
-            Err(_) => Err(LineError::Memory),
+            Err(error) => Err(error),
         },
-        Err(error) => Err(line_error(error)),
+        Form::Update { entry } => match document(alloc, analyzer, entry) {
+            Ok(document) => Ok(Command::Accept {
+                op: Op::Update(document),
+            }),
+            Err(error) => Err(error),
+        },
+        Form::Delete { id } => delete(alloc, id),
+        Form::Suggest { prefix } => match key(alloc, analyzer, prefix, false) {
+            Ok(prefix) => Ok(Command::Suggest { prefix }),
+            Err(error) => Err(error),
+        },
     }
 }
 
-fn suggest(alloc: Global, analyzer: &Analyzer, prefix: &str) -> Result<Command, LineError>
-    ensures ok { IfOk result (λ c. suggest_command (analysis_of analyzer.now prefix.now false)
-        ≡ plain_command c) }
-    ensures refused { IfErr result (Refuses
-        (suggest_command (analysis_of analyzer.now prefix.now false))) }
-{
-    match analyzer.key(alloc, prefix, false) {
-        Ok(prefix) => Ok(Command::Suggest { prefix }),
-        Err(error) => Err(line_error(error)),
-    }
-}
-
-fn is_short(text: &str) -> bool
-    ensures { result ≡ nat_le (length text.now) MOST_TEXT_BYTES }
-{
-    text.len() <= MOST_TEXT_BYTES
-}
-
-fn command_by_form(
+fn command_by_value(
     alloc: Global,
     analyzer: &Analyzer,
-    form: Option<Form<'_>>,
+    value: &Value,
 ) -> Result<Command, LineError>
-    requires { HasLimits (option_map plain_form form) }
-    ensures ok { IfOk result (λ c.
-        command_of_form analyzer.now (option_map plain_form form.entry) ≡ plain_command c) }
-    ensures refused { IfErr result (Refuses
-        (command_of_form analyzer.now (option_map plain_form form.entry))) }
-{
-    match form {
-        None => Err(LineError::Refused {
-            kind: ErrorKind::Shape,
-        }),
-        Some(Form::Add { id, input, weight }) => {
-            if is_short(input) {
-                add(alloc, analyzer, id, input, weight)
-            } else {
-                Err(LineError::Refused {
-                    kind: ErrorKind::Key,
-                })
-            }
-        }
-        Some(Form::Suggest { prefix }) => {
-            if is_short(prefix) {
-                suggest(alloc, analyzer, prefix)
-            } else {
-                Err(LineError::Refused {
-                    kind: ErrorKind::Key,
-                })
-            }
-        }
-    }
-}
-
-fn command_by_value(alloc: Global, analyzer: &Analyzer, value: &Value) -> Result<Command, LineError>
     ensures ok { IfOk result (λ c.
         command_of_value analyzer.now (Some (view value.now)) ≡ plain_command c) }
     ensures refused { IfErr result (Refuses
         (command_of_value analyzer.now (Some (view value.now)))) }
 {
-    command_by_form(alloc, analyzer, read_form(value))
+    match read_form(value) {
+        Some(form) => command_for(alloc, analyzer, form),
+        None => Err(LineError::Refused {
+            kind: ErrorKind::Shape,
+        }),
+    }
 }
 
 fn is_blank_at(byte: u8) -> bool

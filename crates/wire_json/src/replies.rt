@@ -12,6 +12,8 @@ pub enum ErrorKind {
     Shape,
     /// A text that has no key, or is too long.
     Key,
+    /// An operation beyond the greatest number of them.
+    Full,
 }
 
 /// A row as it is printed.

@@ -16,6 +16,7 @@ fn error_name(error: ErrorKind) -> &'static str
         ErrorKind::Json => "json",
         ErrorKind::Shape => "shape",
         ErrorKind::Key => "key",
+        ErrorKind::Full => "full",
     }
 }
 
