@@ -22,3 +22,5 @@ pub use writing::write_all;
 
 #[cfg(test)]
 mod input_tests;
+#[cfg(test)]
+mod tests;

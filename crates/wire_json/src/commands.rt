@@ -30,7 +30,7 @@ pub enum LineError {
 impl fmt::Display for LineError {
     fn fmt<W: fmt::Write>(&self, f: &mut fmt::Formatter<W>) -> fmt::Result {
         match self {
-            LineError::Refused { kind } => write!(f, "the line is refused: {kind:?}"),
+            LineError::Refused { kind } => write!(f, "the line is refused: {kind}"),
             LineError::Memory => write!(f, "out of memory"),
         }
     }

@@ -13,3 +13,6 @@ pub use commands::{Command, LineError, MOST_BLANK_BYTES};
 pub use reading::command;
 pub use replies::{ErrorKind, OutRow, Reply};
 pub use reply_lines::reply;
+
+#[cfg(test)]
+mod tests;

@@ -1,6 +1,8 @@
 //! Replies.
 
+use crate::reply_lines::error_name;
 use sg_base::{List, Text};
+use std::fmt;
 use std::marker::Model;
 
 /// Why a line is refused, in the order in which it is tested.
@@ -14,6 +16,12 @@ pub enum ErrorKind {
     Key,
     /// An operation beyond the greatest number of them.
     Full,
+}
+
+impl fmt::Display for ErrorKind {
+    fn fmt<W: fmt::Write>(&self, f: &mut fmt::Formatter<W>) -> fmt::Result {
+        f.write_str(error_name(*self))
+    }
 }
 
 /// A row as it is printed.

@@ -9,7 +9,8 @@ use crate::replies::{ErrorKind, OutRow, Reply};
 use serde_json::{Value, json};
 use std::alloc::{AllocError, Global};
 
-fn error_name(error: ErrorKind) -> &'static str
+/// The error's name in a reply.
+pub fn error_name(error: ErrorKind) -> &'static str
     ensures { result.now ≡ name_of error }
 {
     match error {
