@@ -47,8 +47,8 @@ abbrev pub entry_of_suggestion : Option (List ℕ) → Option Data → Option En
 entry_of_suggestion id None = None
 entry_of_suggestion id (Some d) =
     if is_none (member_of (codes "contexts") d)
-      then entry_of id (text_of (codes "input") d) (weight_or_one (member_of (codes "weight") d))
-      else None
+    then entry_of id (text_of (codes "input") d) (weight_or_one (member_of (codes "weight") d))
+    else None
 
 -- the one suggestion of a line
 abbrev pub suggestion_of : Data → Option Data

@@ -82,7 +82,7 @@ fn entry_with<'v>(id: Option<&'v str>, suggestion: Option<&'v Value>) -> Option<
     requires { IfSome (option_map (λ s. s.now) id) HasIdBytes }
     ensures entry { option_map plain_entry result
         ≡ entry_of_suggestion (option_map (λ s. s.now) id.entry)
-            (option_map (λ v. view v.now) suggestion.entry) }
+        (option_map (λ v. view v.now) suggestion.entry) }
     ensures limits { IfSome (option_map plain_entry result) IsEntry }
 {
     let suggestion = suggestion?;

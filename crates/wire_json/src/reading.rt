@@ -90,18 +90,12 @@ fn delete(alloc: Global, id: &str) -> Result<Command, LineError>
     ensures refused { IfErr result (Refuses (accepts (deletes id.now))) }
 {
     match Text::of(alloc, id) {
-        Ok(id) => Ok(Command::Accept {
-            op: Op::Delete(id),
-        }),
+        Ok(id) => Ok(Command::Accept { op: Op::Delete(id) }),
         Err(_) => Err(LineError::Memory),
     }
 }
 
-fn command_for(
-    alloc: Global,
-    analyzer: &Analyzer,
-    form: Form<'_>,
-) -> Result<Command, LineError>
+fn command_for(alloc: Global, analyzer: &Analyzer, form: Form<'_>) -> Result<Command, LineError>
     requires { IsForm (plain_form form) }
     ensures ok { IfOk result (λ c.
         command_of_form analyzer.now (plain_form form.entry) ≡ plain_command c) }
@@ -129,11 +123,7 @@ fn command_for(
     }
 }
 
-fn command_by_value(
-    alloc: Global,
-    analyzer: &Analyzer,
-    value: &Value,
-) -> Result<Command, LineError>
+fn command_by_value(alloc: Global, analyzer: &Analyzer, value: &Value) -> Result<Command, LineError>
     ensures ok { IfOk result (λ c.
         command_of_value analyzer.now (Some (view value.now)) ≡ plain_command c) }
     ensures refused { IfErr result (Refuses
