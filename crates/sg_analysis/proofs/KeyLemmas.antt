@@ -1,5 +1,6 @@
 -- The bytes of a key: tokens of a text without a reserved byte have none that a key may not have.
-use Rattle.std.proofs.Common.{◌≡◌, ◌+◌, ℕ, Bool, true, false, ◌&&◌, cond, nat_lt, Option, Some, None}
+use Rattle.std.proofs.Common.{◌≡◌, ◌+◌, ℕ, Bool, true, false, ◌&&◌, cond, nat_lt, Option, Some}
+use Rattle.std.proofs.Common.{None}
 use Rattle.std.proofs.Common.{List, [], ◌∷◌, ◌++◌, length, chars, encode_utf8_all}
 use Rattle.std.proofs.Common.{refl, sym, ◌∙◌, subst, arith}
 use Rattle.std.specs.Prelude.{nat_le, slice_index}

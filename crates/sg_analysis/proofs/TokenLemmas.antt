@@ -1,7 +1,8 @@
 -- The tokens of a text, one after another.
 use Rattle.std.proofs.Common.{◌≡◌, ◌<◌, ◌++◌, ℕ, Bool, true, false, cond}
 use Rattle.std.proofs.Common.{List, [], ◌∷◌, length, chars, encode_utf8_all}
-use Rattle.std.proofs.Common.{refl, sym, ap, ◌∙◌, subst, arith, append_assoc, length-append, append-nil}
+use Rattle.std.proofs.Common.{refl, sym, ap, ◌∙◌, subst, arith, append_assoc, length-append}
+use Rattle.std.proofs.Common.{append-nil}
 use Rattle.std.specs.Bool.{◌==◌}
 use Rattle.std.specs.Char.{is_whitespace, is_not_whitespace, encode_utf8}
 use Rattle.std.specs.List.{filter, list_all, flat_map}

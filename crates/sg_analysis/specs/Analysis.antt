@@ -1,6 +1,7 @@
 -- The analysis of a text. Source: this project's own, by NFKC (Unicode's annex 15) and full case
 -- folding (the Unicode Standard, 3.13). Texts are bytes, characters are Unicode scalar values.
-use Rattle.std.specs.Prelude.{◌≡◌, ℕ, Bool, ◌==◌, ◌&&◌, not, nat_lt, if◌then◌else◌, ⊤, List, [], ◌∷◌}
+use Rattle.std.specs.Prelude.{◌≡◌, ℕ, Bool, ◌==◌, ◌&&◌, not, nat_lt, if◌then◌else◌, ⊤, List, []}
+use Rattle.std.specs.Prelude.{◌∷◌}
 use Rattle.std.specs.Prelude.{length, take, filter, slice_index, chars, encode_utf8_all}
 use Rattle.std.specs.Char.{is_whitespace}
 use Rattle.std.specs.List.{position_from, slice_split, join_by}

@@ -1,6 +1,7 @@
 -- What a context is. Source: the category contexts of Elasticsearch's manual; the limit and the
 -- reserved bytes are this project's own.
-use Rattle.std.specs.Prelude.{◌≡◌, ℕ, Bool, true, List, ◌&&◌, nat_le, length, is_none, Option, Some, ◌<◌, slice_index, ⊤}
+use Rattle.std.specs.Prelude.{◌≡◌, ℕ, Bool, true, List, ◌&&◌, nat_le, length, is_none, Option, Some}
+use Rattle.std.specs.Prelude.{◌<◌, slice_index, ⊤}
 use Rattle.std.specs.List.{position_from}
 use Rattle.sg_base.specs.ReservedBytes.{is_reserved}
 use Rattle.sg_base.specs.Counts.{saturated}

@@ -1,5 +1,6 @@
 -- What deletes and updates reach, and the live documents one operation at a time.
-use Rattle.std.proofs.Common.{◌≡◌, ℕ, zero, suc, ◌+◌, ◌<◌, ◌≤◌, Bool, true, false, not, List, [], ◌∷◌, ◌++◌, length, take, drop, refl, sym, ◌∙◌, ap, arith}
+use Rattle.std.proofs.Common.{◌≡◌, ℕ, zero, suc, ◌+◌, ◌<◌, ◌≤◌, Bool, true, false, not, List, []}
+use Rattle.std.proofs.Common.{◌∷◌, ◌++◌, length, take, drop, refl, sym, ◌∙◌, ap, arith}
 use Rattle.std.specs.Prelude.{filter}
 use Rattle.std.proofs.lemmas.List.{append_assoc, take_all, drop-append-le, length-append, drop_all}
 use Rattle.std.proofs.lemmas.List.Elements.{filter-append}
@@ -8,11 +9,14 @@ use Rattle.std.proofs.lemmas.Grind.{common_steps}
 use Rattle.std.specs.List.{list_any}
 use Rattle.std.specs.Cmp.Lexicographic.{nat_list_eq_equiv}
 use Rattle.sg_paths.specs.Documents.{PlainDocument}
-use Rattle.sg_paths.specs.Operations.{Operation, adds, updates, deletes, NumberedDocument, documents_from}
-use Rattle.sg_paths.specs.LiveDocuments.{same_id, deletes_id, is_deleted, live_documents, live_of, ReachesEarlierDocumentsOnly, LeavesItsOwnDocumentAlone}
+use Rattle.sg_paths.specs.Operations.{Operation, adds, updates, deletes, NumberedDocument}
+use Rattle.sg_paths.specs.Operations.{documents_from}
+use Rattle.sg_paths.specs.LiveDocuments.{same_id, deletes_id, is_deleted, live_documents, live_of}
+use Rattle.sg_paths.specs.LiveDocuments.{ReachesEarlierDocumentsOnly, LeavesItsOwnDocumentAlone}
 
 -- past its place, nothing is left of an operation
-same_after : (before after : List Operation) (one other : Operation) (upto n : ℕ) → length before < n
+same_after : (before after : List Operation) (one other : Operation) (upto n : ℕ)
+    → length before < n
     → drop n (take upto (before ++ one ∷ after)) ≡ drop n (take upto (before ++ other ∷ after))
 same_after before after one other upto zero h = absurd (omega (arith, h))
 same_after [] after one other zero (suc n) h = refl
@@ -27,7 +31,8 @@ reaches_earlier before after one other upto d h =
     (same_after before after one other upto d.seq h)
 
 -- a number that is reached in another way
-documents_from_at : (m n : ℕ) (ops : List Operation) → m ≡ n → documents_from m ops ≡ documents_from n ops
+documents_from_at : (m n : ℕ) (ops : List Operation) → m ≡ n
+    → documents_from m ops ≡ documents_from n ops
 documents_from_at m n ops e = ap (λ (k : ℕ). documents_from k ops) e
 
 -- documents of one list after those of another
@@ -62,9 +67,13 @@ live_of-at : (journal : List Operation) (n : ℕ) (o : Operation) (later : List 
     → drop n (take (length journal) journal) ≡ later
     → live_of n o later ≡ filter (is_live journal) (documents_from n (o ∷ []))
 live_of-at journal n (adds d) later e =
-    ap (λ (ops : List Operation). filter (λ (x : NumberedDocument). not (list_any (deletes_id x.document.id) ops)) (record { seq = n; document = d } ∷ [])) (sym e)
+    ap (λ (ops : List Operation).
+    filter (λ (x : NumberedDocument). not (list_any (deletes_id x.document.id) ops))
+    (record { seq = n; document = d } ∷ [])) (sym e)
 live_of-at journal n (updates d) later e =
-    ap (λ (ops : List Operation). filter (λ (x : NumberedDocument). not (list_any (deletes_id x.document.id) ops)) (record { seq = n; document = d } ∷ [])) (sym e)
+    ap (λ (ops : List Operation).
+    filter (λ (x : NumberedDocument). not (list_any (deletes_id x.document.id) ops))
+    (record { seq = n; document = d } ∷ [])) (sym e)
 live_of-at journal n (deletes id) later e = refl
 
 -- what comes after an operation

@@ -3,9 +3,11 @@
 use Rattle.std.specs.Prelude.{ℕ, List, length, ◌≡◌, ◌≤◌, ◌<◌}
 use Rattle.sg_base.specs.declared.limits.TheConstants.{MOST_WEIGHT}
 use Rattle.sg_base.specs.Counts.{saturated}
-use Rattle.sg_paths.specs.declared.limits.TheConstants.{MOST_TEXT_BYTES, MOST_CONTEXTS, MOST_ID_BYTES, MOST_SUGGESTIONS}
+use Rattle.sg_paths.specs.declared.limits.TheConstants.{MOST_TEXT_BYTES, MOST_CONTEXTS}
+use Rattle.sg_paths.specs.declared.limits.TheConstants.{MOST_ID_BYTES, MOST_SUGGESTIONS}
 use Rattle.sg_paths.specs.declared.suggestion.SuggestionError.{SuggestionError}
-use Rattle.sg_paths.specs.declared.suggestion.SuggestionError.TheVariants.{TextLong, EmptyKey, Weight, Contexts}
+use Rattle.sg_paths.specs.declared.suggestion.SuggestionError.TheVariants.{TextLong, EmptyKey}
+use Rattle.sg_paths.specs.declared.suggestion.SuggestionError.TheVariants.{Weight, Contexts}
 use Rattle.sg_paths.specs.declared.document.DocumentError.{DocumentError}
 use Rattle.sg_paths.specs.declared.document.DocumentError.TheVariants.{Id, NoSuggestion, TooMany}
 

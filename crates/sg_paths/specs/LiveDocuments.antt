@@ -1,11 +1,13 @@
 -- Deleted and live documents of a journal, the list of operations whose n-th has the number n.
 -- Source: Lucene's live docs, where a delete reaches only documents that were added before it.
-use Rattle.std.specs.Prelude.{◌≡◌, ℕ, ◌+◌, ◌<◌, Bool, false, not, nat_eq, List, [], ◌∷◌, ◌++◌, length, filter, take, drop}
+use Rattle.std.specs.Prelude.{◌≡◌, ℕ, ◌+◌, ◌<◌, Bool, false, not, nat_eq, List, [], ◌∷◌, ◌++◌}
+use Rattle.std.specs.Prelude.{length, filter, take, drop}
 use Rattle.std.specs.Option.{option_map_or}
 use Rattle.std.specs.List.{list_any}
 use Rattle.std.specs.Cmp.Lexicographic.{pointwise}
 use Rattle.sg_paths.specs.Documents.{PlainDocument}
-use Rattle.sg_paths.specs.Operations.{Operation, updates, deleted_id, NumberedDocument, documents_from}
+use Rattle.sg_paths.specs.Operations.{Operation, updates, deleted_id, NumberedDocument}
+use Rattle.sg_paths.specs.Operations.{documents_from}
 
 -- whether two ids are the same bytes
 abbrev pub same_id : List ℕ → List ℕ → Bool
@@ -22,7 +24,8 @@ is_deleted journal upto d = list_any (deletes_id d.document.id) (drop d.seq (tak
 -- the document that an operation adds, where no later one deletes it
 abbrev pub live_of : ℕ → Operation → List Operation → List NumberedDocument
 live_of seq operation later =
-    filter (λ d. not (list_any (deletes_id d.document.id) later)) (documents_from seq (operation ∷ []))
+    filter (λ d. not (list_any (deletes_id d.document.id) later))
+    (documents_from seq (operation ∷ []))
 
 -- the documents that the first upto operations add, by number, less the deleted ones
 abbrev pub live_documents : List Operation → ℕ → List NumberedDocument

@@ -1,6 +1,7 @@
 -- The paths of a document: one for each pair of context and key. Source: Lucene's
 -- ContextSuggestField, whose contexts lead the key; which entry is kept is this project's own.
-use Rattle.std.specs.Prelude.{ℕ, Bool, not, nat_eq, nat_lt, ◌&&◌, ◌||◌, ◌+◌, List, [], ◌∷◌, ◌++◌, map, filter}
+use Rattle.std.specs.Prelude.{ℕ, Bool, not, nat_eq, nat_lt, ◌&&◌, ◌||◌, ◌+◌, List, [], ◌∷◌, ◌++◌}
+use Rattle.std.specs.Prelude.{map, filter}
 use Rattle.std.specs.List.{list_any}
 use Rattle.std.specs.Cmp.Lexicographic.{pointwise}
 use Rattle.sg_paths.specs.Documents.{PlainSuggestion, PlainDocument}

@@ -3,7 +3,9 @@ ghost use Rattle.std.specs.Prelude.{◌≡◌, ◌++◌, map, length, OnOk, IfOk
 ghost use Rattle.std.specs.Option.{option_copied};
 ghost use Rattle.std.specs.List.{list_any};
 ghost use Rattle.sg_paths.specs.Operations.{operation_of, added_document};
-ghost use Rattle.sg_paths.specs.LiveDocuments.{same_id, deletes_id, live_documents, live_of, ReachesEarlierDocumentsOnly, LeavesItsOwnDocumentAlone};
+ghost use Rattle.sg_paths.specs.LiveDocuments.{same_id, deletes_id, live_documents, live_of};
+ghost use Rattle.sg_paths.specs.LiveDocuments.{ReachesEarlierDocumentsOnly};
+ghost use Rattle.sg_paths.specs.LiveDocuments.{LeavesItsOwnDocumentAlone};
 
 use crate::document::Document;
 use crate::op::{Numbered, Op};

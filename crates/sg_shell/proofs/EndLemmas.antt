@@ -1,14 +1,19 @@
 -- How a run ends, from how its reading and its writing end.
-use Rattle.std.proofs.Common.{◌≡◌, ◌≢◌, ◌≤◌, ◌<◌, ◌+◌, ℕ, Bool, true, false, List, [], ◌∷◌, ◌++◌, length, Option, Some, None, ◌⊎◌, inl, inr, refl, sym, ap, ◌∙◌, arith, length-append}
+use Rattle.std.proofs.Common.{◌≡◌, ◌≢◌, ◌≤◌, ◌<◌, ◌+◌, ℕ, Bool, true, false, List, [], ◌∷◌, ◌++◌}
+use Rattle.std.proofs.Common.{length, Option, Some, None, ◌⊎◌, inl, inr, refl, sym, ap, ◌∙◌, arith}
+use Rattle.std.proofs.Common.{length-append}
 use Rattle.std.specs.Option.{IsSomeAnd}
 use Rattle.std.proofs.lemmas.Option.{same_Some}
 use Rattle.sg_edge.specs.Edge.{in_front, NothingLeft}
 use Rattle.sg_shell.specs.Inputs.{ReadsToTheEnd, StopsTooLong}
 use Rattle.sg_shell.specs.Runs.{output_of}
-use Rattle.sg_shell.specs.Ends.{SourceMembers, SinkMembers, WriteEnds, AnswersInput, RunEnds, IsFaultless, EndsByLength, is_run}
+use Rattle.sg_shell.proofs.RunLemmas.{output_of-session}
+use Rattle.sg_shell.specs.Ends.{SourceMembers, SinkMembers, WriteEnds, AnswersInput, RunEnds}
+use Rattle.sg_shell.specs.Ends.{IsFaultless, EndsByLength, is_run}
 use Rattle.sg_shell.specs.declared.reading.TheConstants.{MOST_INPUT_BYTES}
 use Rattle.sg_shell.specs.declared.status.Status.{Status}
-use Rattle.sg_shell.specs.declared.status.Status.TheVariants.{Done, Usage, ReadFault, WriteFault, TooLong, Memory}
+use Rattle.sg_shell.specs.declared.status.Status.TheVariants.{Done, Usage, ReadFault, WriteFault}
+use Rattle.sg_shell.specs.declared.status.Status.TheVariants.{TooLong, Memory}
 
 -- bytes that were all taken are the bytes that were left
 taken_whole : (left rest : Option (List ℕ)) (taken : List ℕ) → left ≡ in_front taken rest
@@ -30,19 +35,32 @@ taken_front (Some input) (Some rest) taken is within =
     omega (arith, ap length whole, length-append taken rest, within)
 
 module _ {S K : Type 0} (s : SourceMembers S) (k : SinkMembers K) where
+  -- the output to what was read is a session of it
+  answers : (status : Status) (source source' : S) (sink sink' : K) (input : List ℕ)
+      → ReadsToTheEnd s.left s.faults s.ended source source' input
+      → WriteEnds k (output_of input) status sink sink' → AnswersInput s k status source source' sink sink'
+  answers status source source' sink sink' input read ends = record {
+    input = input;
+    output = output_of input;
+    read = read;
+    exact = refl;
+    session = output_of-session input;
+    written = ends;
+  }
+
   -- a run that reads to the end ends as its writing does
   pub run_ends-read : (status : Status) (source source' : S) (sink sink' : K) (input : List ℕ)
       → ReadsToTheEnd s.left s.faults s.ended source source' input
       → WriteEnds k (output_of input) status sink sink' → RunEnds s k status source source' sink sink'
   run_ends-read Done source source' sink sink' input read ends =
-      record { input = input; read = read; written = ends }
+      answers Done source source' sink sink' input read ends
   run_ends-read Usage source source' sink sink' input read ends = absurd ends
   run_ends-read ReadFault source source' sink sink' input read ends = absurd ends
   run_ends-read WriteFault source source' sink sink' input read ends =
-      record { input = input; read = read; written = ends }
+      answers WriteFault source source' sink sink' input read ends
   run_ends-read TooLong source source' sink sink' input read ends = absurd ends
   run_ends-read Memory source source' sink sink' input read ends =
-      inr (record { input = input; read = read; written = ends })
+      inr (answers Memory source source' sink sink' input read ends)
 
   -- writing never ends as a run without a reading does
   pub write_ends-usage : (status : Status) (output : List ℕ) (sink sink' : K)

@@ -1,9 +1,12 @@
 -- The lines of an input, one after another.
-use Rattle.std.proofs.Common.{◌≡◌, ◌≤◌, ◌<◌, ◌+◌, ◌-◌, ℕ, zero, suc, Bool, true, false, cond, List, [], ◌∷◌, ◌++◌, length, take, drop, refl, sym, ap, ◌∙◌, arith, Option, Some, None, add-one, length-drop}
+use Rattle.std.proofs.Common.{◌≡◌, ◌≤◌, ◌<◌, ◌+◌, ◌-◌, ℕ, zero, suc, Bool, true, false, cond, List}
+use Rattle.std.proofs.Common.{[], ◌∷◌, ◌++◌, length, take, drop, refl, sym, ap, ◌∙◌, arith, Option}
+use Rattle.std.proofs.Common.{Some, None, add-one, length-drop}
 use Rattle.std.proofs.Math.Seq.{take-length, drop-length}
 use Rattle.std.specs.List.{position_from}
 use Rattle.std.proofs.lemmas.Option.{same_Some}
-use Rattle.sg_shell.specs.Lines.{SplitText, split_with, split_lines, last_line, lines_of, is_line_feed}
+use Rattle.sg_shell.specs.Lines.{SplitText, split_with, split_lines, last_line, lines_of}
+use Rattle.sg_shell.specs.Lines.{is_line_feed}
 
 -- a place that is found isn't before the first
 found_from_at : (t : Bool) (bs : List ℕ) (i j : ℕ)

@@ -1,32 +1,254 @@
--- A run, one line after another.
-use Rattle.std.proofs.Common.{◌≡◌, ◌≤◌, ◌+◌, ◌++◌, ℕ, List, [], ◌∷◌, Option, map, refl, sym, ap, ◌∙◌, arith, append_assoc}
-use Rattle.std.specs.Option.{option_to_list}
-use Rattle.std.proofs.lemmas.Grind.{flat_map-append}
+-- What the lines of a run do to the record, and that their transcript is a session.
+use Rattle.std.proofs.Common.{◌≡◌, ◌≤◌, ◌<◌, ◌+◌, ℕ, Bool, true, false, cond, not, nat_eq, nat_le}
+use Rattle.std.proofs.Common.{List, [], ◌∷◌, ◌++◌, length, map, filter, Option, Some, None, refl}
+use Rattle.std.proofs.Common.{sym, ap, ◌∙◌, subst, arith, append-nil, length-append, add-zero}
+use Rattle.std.proofs.Common.{zero-add, inl, inr}
+use Rattle.std.specs.List.{All, filter_map}
+use Rattle.std.proofs.lemmas.List.Elements.{All-cons, filter_map-append}
+use Rattle.std.proofs.lemmas.Bool.Decides.{nat_tests}
+use Rattle.sg_paths.specs.Operations.{Operation}
+use Rattle.index_core.specs.Histories.{HistoryEvent, accept, freeze, Record, accepted, frozen}
+use Rattle.index_core.specs.Histories.{buffered, accepted_number, next_generation}
+use Rattle.index_core.specs.Calls.{empty_record, with_event, with_operation, after_freeze}
+use Rattle.index_core.specs.Calls.{after_accept, after_begin, after_end, beginning, view_of_all}
+use Rattle.index_core.specs.Calls.{released_by_end}
+use Rattle.index_core.specs.declared.limits.TheConstants.{MOST_OPERATIONS, MOST_BUFFERED}
 use Rattle.wire_json.specs.Commands.{Command, blank, accepts, suggests, refused, command_of}
-use Rattle.wire_json.specs.Replies.{Reply, reply_text}
+use Rattle.wire_json.specs.Replies.{Reply, numbered, rows, failed}
+use Rattle.wire_json.specs.declared.replies.ErrorKind.TheVariants.{Full}
 use Rattle.sg_shell.specs.Lines.{lines_of}
-use Rattle.sg_shell.specs.Runs.{Store, step, replies_from, text_of, commands_of, standard}
+use Rattle.sg_shell.specs.Runs.{Line, Said, said, caller, step, accept_step, after_view}
+use Rattle.sg_shell.specs.Runs.{numbered_from, transcript_from, standard, input_lines}
+use Rattle.sg_shell.specs.Runs.{transcript_of, output, output_of}
+use Rattle.sg_shell.specs.Sessions.{wants_reply, MayReply, IsSession, Session}
+use Rattle.sg_shell.proofs.SessionLemmas.{at_most, Follows, follows-nil, follows-cons}
+use Rattle.sg_shell.proofs.SessionLemmas.{next-numbered, next-full, next-rows, next-refused}
 
--- the output so far, after one more line
-pub output-more : (output whole : List ℕ) (n : ℕ) (s after : Store) (bytes line rest : List ℕ)
-    (answered : Option Reply) → lines_of bytes ≡ line ∷ lines_of rest
-    → answered ≡ (step n (command_of standard line) s).reply
-    → after ≡ (step n (command_of standard line) s).after
-    → output ++ text_of (replies_from n s (commands_of bytes)) ≡ whole
-    → (output ++ text_of (option_to_list answered)) ++ text_of (replies_from (n + 1) after (commands_of rest))
-    ≡ whole
-output-more output whole n s after bytes line rest answered split reply then so_far =
-    let next = step n (command_of standard line) s in
-    let later = replies_from (n + 1) next.after (commands_of rest) in
-    let opened : output ++ text_of (option_to_list next.reply ++ later) ≡ whole =
-    ap (λ ls. output ++ text_of (replies_from n s (map (command_of standard) ls))) (sym split) ∙ so_far in
-    rw (reply, then)
-    (append_assoc output (text_of (option_to_list next.reply)) (text_of later)
-    ∙ (ap (λ (text : List ℕ). output ++ text) (sym (flat_map-append reply_text (option_to_list next.reply) later)) ∙ opened))
+-- ---- records
 
--- a line accepts one operation at most
-pub accepted-more : (n : ℕ) (c : Command) (s : Store) → (step n c s).after.accepted ≤ s.accepted + 1
-accepted-more n blank s = omega arith
-accepted-more n (accepts op) s = omega arith
-accepted-more n (suggests prefix) s = omega arith
-accepted-more n (refused kind) s = omega arith
+-- one operation for each accept
+abbrev pub IsCounted : Record → Type 0
+IsCounted r = accepted r.history ≡ length r.journal
+
+-- a record that has gained these operations
+pub record Gains (now : List Operation) (old new : Record) : Type 0 where
+  pub journal : new.journal ≡ old.journal ++ now
+  pub counted : accepted new.history ≡ accepted old.history + length now
+
+accepted-event : (history : List HistoryEvent) (event : HistoryEvent)
+    → accepted (history ++ event ∷ []) ≡ accepted history + length (filter_map accepted_number (event ∷ []))
+accepted-event history event =
+    ap length (filter_map-append accepted_number history (event ∷ []))
+    ∙ length-append (filter_map accepted_number history) (filter_map accepted_number (event ∷ []))
+
+gains-none : (r : Record) → Gains [] r r
+gains-none r = record { journal = sym (append-nil r.journal); counted = sym (add-zero (accepted r.history)) }
+
+gains-event : (r : Record) (event : HistoryEvent) → filter_map accepted_number (event ∷ []) ≡ []
+    → Gains [] r (with_event r event)
+gains-event r event none = record {
+  journal = sym (append-nil r.journal);
+  counted = accepted-event r.history event ∙ ap (λ (ns : List ℕ). accepted r.history + length ns) none;
+}
+
+gains-then : (now : List Operation) (old mid new : Record) → Gains now old mid → Gains [] mid new
+    → Gains now old new
+gains-then now old mid new first later = record {
+  journal = later.journal ∙ (append-nil mid.journal ∙ first.journal);
+  counted = later.counted ∙ (add-zero (accepted mid.history) ∙ first.counted);
+}
+
+gains-if : (b : Bool) (now : List Operation) (old one other : Record) → Gains now old one
+    → Gains now old other → Gains now old (cond b one other)
+gains-if true now old one other p q = p
+gains-if false now old one other p q = q
+
+pub gains-freeze : (r : Record) → Gains [] r (after_freeze caller r)
+gains-freeze r =
+    gains-if (nat_eq (buffered r.history) 0) [] r r _ (gains-none r) (gains-event r _ refl)
+
+gains-accept : (r : Record) (operation : Operation)
+    → Gains (operation ∷ []) r (after_accept caller operation r)
+gains-accept r operation =
+    let added = with_operation caller operation r in
+    let one : Gains (operation ∷ []) r added =
+    record { journal = refl; counted = accepted-event r.history (accept caller (accepted r.history + 1)) } in
+    gains-if (nat_eq (buffered added.history) MOST_BUFFERED) (operation ∷ []) r _ added
+      (gains-then (operation ∷ []) r added _ one (gains-freeze added)) one
+
+pub gains-begin : (r : Record) → Gains [] r (after_begin caller r)
+gains-begin r =
+    let all_frozen = after_freeze caller r in
+    gains-then [] r all_frozen _ (gains-freeze r) (gains-event all_frozen _ refl)
+
+gains-view : (r : Record) → Gains [] r (after_view r)
+gains-view r =
+    gains-then [] r (after_begin caller r) _ (gains-begin r) (gains-event (after_begin caller r) _ refl)
+
+gains-counted : (now : List Operation) (old new : Record) → IsCounted old → Gains now old new → IsCounted new
+gains-counted now old new counted gains =
+    omega (arith, gains.counted, counted, ap length gains.journal, length-append old.journal now)
+
+-- ---- lines
+
+-- the operations that a line accepts over a record
+abbrev pub accepted_now : Command → Record → List Operation
+accepted_now blank r = []
+accepted_now (accepts operation) r = cond (nat_le MOST_OPERATIONS (accepted r.history)) [] (operation ∷ [])
+accepted_now (suggests prefix) r = []
+accepted_now (refused kind) r = []
+
+-- those that lines in order accept
+abbrev pub accepted_from : Record → List Line → List Operation
+accepted_from r [] = []
+accepted_from r (line ∷ lines) =
+    accepted_now line.command r ++ accepted_from (step line.number line.command r).after lines
+
+gains-accept_if : (full : Bool) (n : ℕ) (operation : Operation) (r : Record)
+    → nat_le MOST_OPERATIONS (accepted r.history) ≡ full
+    → Gains (accepted_now (accepts operation) r) r (step n (accepts operation) r).after
+gains-accept_if true n operation r is = rw is (gains-none r)
+gains-accept_if false n operation r is = rw is (gains-accept r operation)
+
+gains-step : (n : ℕ) (c : Command) (r : Record) → Gains (accepted_now c r) r (step n c r).after
+gains-step n blank r = gains-none r
+gains-step n (accepts operation) r =
+    gains-accept_if (nat_le MOST_OPERATIONS (accepted r.history)) n operation r refl
+gains-step n (suggests prefix) r = gains-view r
+gains-step n (refused kind) r = gains-none r
+
+-- the transcript from one line on
+abbrev told : ℕ → Command → Record → List Said → List Said
+told n c r t = said (record { number = n; command = c }) (step n c r).reply ++ t
+
+follows-accept_if : (full : Bool) (n : ℕ) (operation : Operation) (r : Record) (t : List Said)
+    (more : List Operation) → nat_le MOST_OPERATIONS (accepted r.history) ≡ full → IsCounted r
+    → Follows (r.journal ++ accepted_now (accepts operation) r) t more
+    → Follows r.journal (told n (accepts operation) r t) (accepted_now (accepts operation) r ++ more)
+follows-accept_if true n operation r t more is counted later =
+    let full : MOST_OPERATIONS ≤ length r.journal = grind (arith, nat_tests, counted, is) in
+    let later' = rw is at later in
+    rw is (follows-cons r.journal [] more _ t (next-full r.journal n operation full) later')
+follows-accept_if false n operation r t more is counted later =
+    let room : length r.journal < MOST_OPERATIONS = grind (arith, nat_tests, counted, is) in
+    let later' = rw is at later in
+    rw (is, counted) (follows-cons r.journal (operation ∷ []) more _ t (next-numbered r.journal n operation room) later')
+
+follows-step : (n : ℕ) (c : Command) (r : Record) (t : List Said) (more : List Operation) → IsCounted r
+    → Follows (r.journal ++ accepted_now c r) t more
+    → Follows r.journal (told n c r t) (accepted_now c r ++ more)
+follows-step n blank r t more counted later = rw append-nil at later
+follows-step n (accepts operation) r t more counted later =
+    follows-accept_if (nat_le MOST_OPERATIONS (accepted r.history)) n operation r t more refl counted later
+follows-step n (suggests prefix) r t more counted later =
+    rw counted (follows-cons r.journal [] more _ t (next-rows r.journal n prefix) later)
+follows-step n (refused kind) r t more counted later =
+    follows-cons r.journal [] more _ t (next-refused r.journal n kind) later
+
+within-step : (n : ℕ) (c : Command) (r : Record) → IsCounted r → length r.journal ≤ MOST_OPERATIONS
+    → length (r.journal ++ accepted_now c r) ≤ MOST_OPERATIONS
+within-step n blank r counted most = omega (arith, length-append r.journal [], most)
+within-step n (accepts operation) r counted most =
+    by_room (nat_le MOST_OPERATIONS (accepted r.history)) refl where
+  by_room : (full : Bool) → nat_le MOST_OPERATIONS (accepted r.history) ≡ full
+      → length (r.journal ++ cond full [] (operation ∷ [])) ≤ MOST_OPERATIONS
+  by_room true is = omega (arith, length-append r.journal [], most)
+  by_room false is =
+      let room : length r.journal < MOST_OPERATIONS = grind (arith, nat_tests, counted, is) in
+      omega (arith, length-append r.journal (operation ∷ []), room)
+within-step n (suggests prefix) r counted most = omega (arith, length-append r.journal [], most)
+within-step n (refused kind) r counted most = omega (arith, length-append r.journal [], most)
+
+-- lines in order
+pub follows-lines : (r : Record) (lines : List Line) → IsCounted r → length r.journal ≤ MOST_OPERATIONS
+    → Follows r.journal (transcript_from r lines) (accepted_from r lines)
+follows-lines r [] counted most = follows-nil r.journal most
+follows-lines r (line ∷ lines) counted most =
+    let n = line.number in
+    let c = line.command in
+    let next = (step n c r).after in
+    let gains = gains-step n c r in
+    let most' : length next.journal ≤ MOST_OPERATIONS = rw gains.journal (within-step n c r counted most) in
+    let later = follows-lines next lines (gains-counted _ r next counted gains) most' in
+    let P : List Operation → Type 0 = λ j. Follows j (transcript_from next lines) (accepted_from next lines) in
+    follows-step n c r (transcript_from next lines) (accepted_from next lines) counted (subst P gains.journal later)
+
+-- ---- replies
+
+answers-accept_if : (full : Bool) (n : ℕ) (operation : Operation) (r : Record) (t : List Said)
+    → nat_le MOST_OPERATIONS (accepted r.history) ≡ full
+    → All (λ e. MayReply e.line.command e.line.number e.reply) t
+    → All (λ e. MayReply e.line.command e.line.number e.reply) (told n (accepts operation) r t)
+answers-accept_if true n operation r t is later =
+    rw is (All-cons (λ e. MayReply e.line.command e.line.number e.reply) _ t (inr refl) later)
+answers-accept_if false n operation r t is later =
+    rw is (All-cons (λ e. MayReply e.line.command e.line.number e.reply) _ t (inl (_, refl)) later)
+
+answers-step : (n : ℕ) (c : Command) (r : Record) (t : List Said)
+    → All (λ e. MayReply e.line.command e.line.number e.reply) t
+    → All (λ e. MayReply e.line.command e.line.number e.reply) (told n c r t)
+answers-step n blank r t later = later
+answers-step n (accepts operation) r t later =
+    answers-accept_if (nat_le MOST_OPERATIONS (accepted r.history)) n operation r t refl later
+answers-step n (suggests prefix) r t later =
+    All-cons (λ e. MayReply e.line.command e.line.number e.reply) _ t (_, _, refl) later
+answers-step n (refused kind) r t later =
+    All-cons (λ e. MayReply e.line.command e.line.number e.reply) _ t refl later
+
+answers-lines : (r : Record) (lines : List Line)
+    → All (λ e. MayReply e.line.command e.line.number e.reply) (transcript_from r lines)
+answers-lines r [] = λ k d h. absurd (omega arith)
+answers-lines r (line ∷ lines) =
+    answers-step line.number line.command r _ (answers-lines (step line.number line.command r).after lines)
+
+lines-accept_if : (full : Bool) (n : ℕ) (operation : Operation) (r : Record) (t : List Said)
+    → nat_le MOST_OPERATIONS (accepted r.history) ≡ full
+    → map (λ e. e.line) (told n (accepts operation) r t)
+    ≡ record { number = n; command = accepts operation } ∷ map (λ e. e.line) t
+lines-accept_if true n operation r t is = rw is refl
+lines-accept_if false n operation r t is = rw is refl
+
+-- each line that wants a reply has one
+lines-step : (n : ℕ) (c : Command) (r : Record) (t : List Said) (lines : List Line)
+    → map (λ e. e.line) t ≡ filter (λ l. wants_reply l.command) lines
+    → map (λ e. e.line) (told n c r t)
+    ≡ filter (λ l. wants_reply l.command) (record { number = n; command = c } ∷ lines)
+lines-step n blank r t lines later = later
+lines-step n (accepts operation) r t lines later =
+    lines-accept_if (nat_le MOST_OPERATIONS (accepted r.history)) n operation r t refl
+    ∙ ap (λ (ls : List Line). record { number = n; command = accepts operation } ∷ ls) later
+lines-step n (suggests prefix) r t lines later =
+    ap (λ (ls : List Line). record { number = n; command = suggests prefix } ∷ ls) later
+lines-step n (refused kind) r t lines later =
+    ap (λ (ls : List Line). record { number = n; command = refused kind } ∷ ls) later
+
+lines-transcript : (r : Record) (lines : List Line)
+    → map (λ e. e.line) (transcript_from r lines) ≡ filter (λ l. wants_reply l.command) lines
+lines-transcript r [] = refl
+lines-transcript r (line ∷ lines) =
+    lines-step line.number line.command r _ lines (lines-transcript (step line.number line.command r).after lines)
+
+-- ---- the session
+
+-- the output to an input is a session of it
+pub output_of-session : (input : List ℕ) → Session input (output_of input)
+output_of-session input =
+    let lines = input_lines input in
+    let follows = follows-lines empty_record lines refl (omega arith) in
+    let journal = accepted_from empty_record lines in
+    let whole : 0 + length journal ≡ length journal = zero-add (length journal) in
+    record {
+      transcript = transcript_of input;
+      journal = journal;
+      is_session = record {
+        replied = lines-transcript empty_record lines;
+        written = refl;
+        answers = answers-lines empty_record lines;
+        numbers = follows.numbers;
+        most = rw whole at follows.most;
+        full = λ k d h is. sym whole ∙ follows.full k d h is;
+        ordered = follows.ordered;
+        at_most = λ k d h. at_most _ (0 + length journal) (length journal) (omega arith) (follows.at_most k d h);
+        answered = follows.answered;
+      };
+    }

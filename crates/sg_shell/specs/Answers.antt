@@ -1,6 +1,7 @@
 -- The answer to a query. Source: Lucene's TopSuggestDocsCollector, which keeps one row a document;
 -- the match on analysed keys is that of Lucene's PrefixCompletionQuery.
-use Rattle.std.specs.Prelude.{ℕ, ◌+◌, ◌==◌, Bool, nat_eq, if◌then◌else◌, List, [], ◌∷◌, ◌++◌, Option, Some, None, find, filter_map, slice_get, take, map}
+use Rattle.std.specs.Prelude.{ℕ, ◌+◌, ◌==◌, Bool, nat_eq, if◌then◌else◌, List, [], ◌∷◌, ◌++◌}
+use Rattle.std.specs.Prelude.{Option, Some, None, find, filter_map, slice_get, take, map}
 use Rattle.std.specs.Option.{option_map_or}
 use Rattle.std.specs.List.{starts_with}
 use Rattle.sg_base.specs.Ranking.{rank_cmp, in_order}

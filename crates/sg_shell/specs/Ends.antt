@@ -1,11 +1,14 @@
 -- How a run ends. Source: this project's own.
-use Rattle.std.specs.Prelude.{◌≡◌, ◌≤◌, ◌<◌, ◌⊎◌, ℕ, Bool, true, false, List, [], ◌∷◌, take, length, Option, codes, bytes_eq, IsSomeAnd}
+use Rattle.std.specs.Prelude.{◌≡◌, ◌≤◌, ◌<◌, ◌⊎◌, ℕ, Bool, true, false, List, [], ◌∷◌, take, length}
+use Rattle.std.specs.Prelude.{Option, codes, bytes_eq, IsSomeAnd}
 use Rattle.sg_edge.specs.Edge.{behind, Rose}
 use Rattle.sg_shell.specs.Inputs.{ReadsToTheEnd, StopsAtFault, StopsTooLong, StopsWithoutMemory}
 use Rattle.sg_shell.specs.Runs.{output_of}
+use Rattle.sg_shell.specs.Sessions.{Session}
 use Rattle.sg_shell.specs.declared.reading.TheConstants.{MOST_INPUT_BYTES}
 use Rattle.sg_shell.specs.declared.status.Status.{Status}
-use Rattle.sg_shell.specs.declared.status.Status.TheVariants.{Done, Usage, ReadFault, WriteFault, TooLong, Memory}
+use Rattle.sg_shell.specs.declared.status.Status.TheVariants.{Done, Usage, ReadFault, WriteFault}
+use Rattle.sg_shell.specs.declared.status.Status.TheVariants.{TooLong, Memory}
 
 -- the arguments that have a reading: the one word `run`
 abbrev pub is_run : List (List ℕ) → Bool
@@ -35,9 +38,10 @@ pub record WritesAll {K : Type 0} (k : SinkMembers K) (output : List ℕ) (old n
   pub given : k.given new ≡ behind output (k.given old)
   pub no_fault : k.faults new ≡ k.faults old
 
--- a put failed after a front of an output
+-- a put failed after a front of an output, which isn't all of it
 pub record FailsWriting {K : Type 0} (k : SinkMembers K) (output : List ℕ) (old new : K) : Type 0 where
   pub written : ℕ
+  pub within : written < length output
   pub given : k.given new ≡ behind (take written output) (k.given old)
   pub rose : Rose (k.faults old) (k.faults new)
 
@@ -57,11 +61,14 @@ WriteEnds k output ReadFault old new = ⊥
 WriteEnds k output TooLong old new = ⊥
 
 module _ {S K : Type 0} (s : SourceMembers S) (k : SinkMembers K) where
-  -- the input was read to its end, and the writing of the output to it ended so
+  -- the input was read to its end, and the writing of the output to it, which is a session, ended so
   pub record AnswersInput (status : Status) (source source' : S) (sink sink' : K) : Type 0 where
     pub input : List ℕ
+    pub output : List ℕ
     pub read : ReadsToTheEnd s.left s.faults s.ended source source' input
-    pub written : WriteEnds k (output_of input) status sink sink'
+    pub exact : output ≡ output_of input
+    pub session : Session input output
+    pub written : WriteEnds k output status sink sink'
 
   -- what each status says of the source and the sink, before and after
   abbrev pub RunEnds : Status → S → S → K → K → Type 0

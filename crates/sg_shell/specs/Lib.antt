@@ -1,6 +1,8 @@
 pub mod Lines
 pub mod Answers
+pub mod LastDeletes
 pub mod Runs
+pub mod Sessions
 pub mod Statuses
 pub mod Inputs
 pub mod Outputs

@@ -1,59 +1,111 @@
 -- A run: what each line prints, from the bytes of an input to those of its output. Source: this
 -- project's own.
-use Rattle.std.specs.Prelude.{ℕ, ◌+◌, true, List, [], ◌∷◌, ◌++◌, map, flat_map, Option, Some, None, option_map}
-use Rattle.std.specs.Option.{option_to_list}
+use Rattle.std.specs.Prelude.{ℕ, ◌+◌, true, nat_le, if◌then◌else◌, List, [], ◌∷◌, ◌++◌, map}
+use Rattle.std.specs.Prelude.{flat_map, Option, Some, None}
 use Rattle.sg_analysis.specs.declared.analyzer.Analyzer.{Analyzer}
-use Rattle.sg_paths.specs.Operations.{Operation, added_document, NumberedDocument}
+use Rattle.sg_paths.specs.Operations.{Operation}
+use Rattle.sg_paths.specs.LiveDocuments.{live_documents}
+use Rattle.index_core.specs.Histories.{Record, accepted}
+use Rattle.index_core.specs.Calls.{empty_record, after_accept, after_begin, after_end, begun_by}
+use Rattle.index_core.specs.declared.limits.TheConstants.{MOST_OPERATIONS}
 use Rattle.wire_json.specs.Commands.{Command, blank, accepts, suggests, refused, command_of}
 use Rattle.wire_json.specs.Replies.{Reply, numbered, rows, failed, reply_text}
+use Rattle.wire_json.specs.declared.replies.ErrorKind.TheVariants.{Full}
 use Rattle.sg_shell.specs.Lines.{lines_of}
 use Rattle.sg_shell.specs.Answers.{rows_of}
 
--- the documents that were added so far, and how many operations were accepted
-pub record Store : Type 0 where
-  pub documents : List NumberedDocument
-  pub accepted : ℕ
+-- the program is the one caller of its index
+abbrev pub caller : ℕ
+caller = 0
 
-abbrev pub empty_store : Store
-empty_store = record { documents = []; accepted = 0 }
-
--- a document under the number of its operation
-abbrev pub numbered_from : Operation → ℕ → List NumberedDocument
-numbered_from op seq = option_to_list (option_map (λ d. record { seq = seq; document = d }) (added_document op))
-
-abbrev pub store_after : Operation → Store → Store
-store_after op s = record { documents = s.documents ++ numbered_from op (s.accepted + 1); accepted = s.accepted + 1 }
-
--- what a line prints, and the store after it
+-- what a line prints, and the record after it
 pub record Step : Type 0 where
   pub reply : Option Reply
-  pub after : Store
+  pub after : Record
 
--- an operation prints its number, a query its rows over the operations before it
-abbrev pub step : ℕ → Command → Store → Step
-step line blank s = record { reply = None; after = s }
-step line (accepts op) s = record { reply = Some (numbered line (s.accepted + 1)); after = store_after op s }
-step line (suggests prefix) s = record { reply = Some (rows line s.accepted (rows_of prefix s.documents)); after = s }
-step line (refused kind) s = record { reply = Some (failed line kind); after = s }
+-- an operation prints its number, unless the index is full
+abbrev pub accept_step : ℕ → Operation → Record → Step
+accept_step line operation r =
+    if nat_le MOST_OPERATIONS (accepted r.history)
+      then record { reply = Some (failed line Full); after = r }
+      else record {
+        reply = Some (numbered line (accepted r.history + 1));
+        after = after_accept caller operation r;
+      }
 
--- the replies to lines in order, the first of which has this number
-abbrev pub replies_from : ℕ → Store → List Command → List Reply
-replies_from line s [] = []
-replies_from line s (c ∷ cs) =
-    option_to_list (step line c s).reply ++ replies_from (line + 1) (step line c s).after cs
+-- the record after a view of all operations was begun and ended
+abbrev pub after_view : Record → Record
+after_view r = after_end caller (begun_by caller r).view (after_begin caller r)
+
+-- a query prints its rows over the documents that are live after all operations so far
+abbrev pub suggest_step : ℕ → List ℕ → Record → Step
+suggest_step line prefix r =
+    let upto = accepted r.history in
+    record {
+      reply = Some (rows line upto (rows_of prefix (live_documents r.journal upto)));
+      after = after_view r;
+    }
+
+-- what a line prints by what it asks for
+abbrev pub step : ℕ → Command → Record → Step
+step line blank r = record { reply = None; after = r }
+step line (accepts operation) r = accept_step line operation r
+step line (suggests prefix) r = suggest_step line prefix r
+step line (refused kind) r = record { reply = Some (failed line kind); after = r }
+
+-- a line: its number, from 1, and what it asks for
+pub record Line : Type 0 where
+  pub number : ℕ
+  pub command : Command
+
+-- a line with its reply
+pub record Said : Type 0 where
+  pub line : Line
+  pub reply : Reply
+
+-- a line that has a reply
+abbrev pub said : Line → Option Reply → List Said
+said line None = []
+said line (Some reply) = record { line = line; reply = reply } ∷ []
+
+-- lines numbered from this number on
+abbrev pub numbered_from : ℕ → List Command → List Line
+numbered_from n [] = []
+numbered_from n (c ∷ cs) = record { number = n; command = c } ∷ numbered_from (n + 1) cs
+
+-- what lines in order print over a record, with each line that has a reply
+abbrev pub transcript_from : Record → List Line → List Said
+transcript_from r [] = []
+transcript_from r (line ∷ lines) =
+    said line (step line.number line.command r).reply
+    ++ transcript_from (step line.number line.command r).after lines
+
+-- the record after lines in order
+abbrev pub record_after : Record → List Line → Record
+record_after r [] = r
+record_after r (line ∷ lines) = record_after (step line.number line.command r).after lines
 
 -- the program's analyzer keeps separators
 abbrev pub standard : Analyzer
 standard = record { separators = true }
 
--- what the lines of an input ask for
-abbrev pub commands_of : List ℕ → List Command
-commands_of input = map (command_of standard) (lines_of input)
+-- the lines of an input
+abbrev pub input_lines : List ℕ → List Line
+input_lines input = numbered_from 1 (map (command_of standard) (lines_of input))
 
--- the output of replies, a line each
-abbrev pub text_of : List Reply → List ℕ
-text_of = flat_map reply_text
+-- the lines of an input that have a reply, each with it
+abbrev pub transcript_of : List ℕ → List Said
+transcript_of input = transcript_from empty_record (input_lines input)
+
+-- the bytes of a reply, if there is one
+abbrev pub printed : Option Reply → List ℕ
+printed None = []
+printed (Some reply) = reply_text reply
+
+-- the output of a transcript: its replies, a line each
+abbrev pub output : List Said → List ℕ
+output = flat_map (λ e. reply_text e.reply)
 
 -- the output to an input
 abbrev pub output_of : List ℕ → List ℕ
-output_of input = text_of (replies_from 1 empty_store (commands_of input))
+output_of input = output (transcript_of input)

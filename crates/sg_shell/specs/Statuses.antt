@@ -1,7 +1,8 @@
 -- The exit status of each end of a run. Source: this project's own.
 use Rattle.std.specs.Prelude.{ℕ}
 use Rattle.sg_shell.specs.declared.status.Status.{Status}
-use Rattle.sg_shell.specs.declared.status.Status.TheVariants.{Done, Usage, ReadFault, WriteFault, TooLong, Memory}
+use Rattle.sg_shell.specs.declared.status.Status.TheVariants.{Done, Usage, ReadFault, WriteFault}
+use Rattle.sg_shell.specs.declared.status.Status.TheVariants.{TooLong, Memory}
 
 abbrev pub code_of : Status → ℕ
 code_of Done = 0

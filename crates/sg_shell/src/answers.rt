@@ -1,13 +1,16 @@
 //! The answer to a query, by a scan over all documents.
-ghost use Rattle.std.specs.Prelude.{◌≡◌, ◌≤◌, ◌+◌, ◌++◌, IfOk, OnOk, find, filter_map, length, map, nat_eq, option_to_list, slice_get, take, ◌==◌};
+ghost use Rattle.std.specs.Prelude.{◌≡◌, ◌≤◌, ◌+◌, ◌++◌, IfOk, OnOk, find, filter_map, length, map};
+ghost use Rattle.std.specs.Prelude.{nat_eq, option_to_list, slice_get, take, ◌==◌};
 ghost use Rattle.std.specs.Option.{option_copied};
 ghost use Rattle.std.specs.List.{starts_with};
 ghost use Rattle.sg_base.specs.Ranking.{rank_cmp, in_order};
 ghost use Rattle.sg_paths.specs.declared.limits.TheConstants.{MOST_SUGGESTIONS};
-ghost use Rattle.sg_shell.specs.Answers.{matching_rank, matching_ranks, document_row, answer, text_at, row_of, rows_of};
+ghost use Rattle.sg_shell.specs.Answers.{matching_rank, matching_ranks, document_row, answer};
+ghost use Rattle.sg_shell.specs.Answers.{text_at, row_of, rows_of};
 
 use sg_base::{Key, Rank, Text, sort_by_rank};
-use sg_paths::{Numbered, Suggestion};
+use crate::live::LiveDocument;
+use sg_paths::Suggestion;
 use std::alloc::{AllocError, Global};
 use wire_json::OutRow;
 
@@ -66,12 +69,12 @@ fn first_rank(ranks: Vec<Rank>) -> Option<Rank>
 fn row_of_document(
     alloc: Global,
     prefix: &Key,
-    document: &Numbered,
+    document: &LiveDocument<'_>,
 ) -> Result<Option<Rank>, AllocError>
     ensures { IfOk result (λ row. row ≡ document_row prefix.now document.now) }
 {
-    let suggestions = document.document.suggestions.items();
-    let mut ranks = ranks_of(alloc, prefix, document.seq, suggestions)?;
+    let found = document.document;
+    let mut ranks = ranks_of(alloc, prefix, document.seq, found.suggestions.items())?;
     sort_by_rank(&mut ranks)?;
     Ok(first_rank(ranks))
 }
@@ -86,7 +89,11 @@ fn push_row(rows: &mut Vec<Rank>, row: Option<Rank>) -> Result<(), AllocError>
 }
 
 // The rows of all documents that match, in rank order.
-fn all_rows(alloc: Global, prefix: &Key, documents: &[Numbered]) -> Result<Vec<Rank>, AllocError>
+fn all_rows(
+    alloc: Global,
+    prefix: &Key,
+    documents: &[LiveDocument<'_>],
+) -> Result<Vec<Rank>, AllocError>
     ensures { IfOk result (λ rows. rows.items ≡ answer prefix.now documents.now) }
 {
     let mut rows = Vec::new(alloc);
@@ -98,7 +105,10 @@ fn all_rows(alloc: Global, prefix: &Key, documents: &[Numbered]) -> Result<Vec<R
     Ok(rows)
 }
 
-fn document_with(documents: &[Numbered], seq: u64) -> Option<&Numbered>
+fn document_with<'d, 'p>(
+    documents: &'d [LiveDocument<'p>],
+    seq: u64,
+) -> Option<&'d LiveDocument<'p>>
     ensures { option_copied result ≡ find (λ d. d.seq == seq) documents.now }
 {
     documents.iter().find(|document| document.seq == seq)
@@ -113,16 +123,10 @@ fn text_of(suggestions: &[Suggestion], place: u8) -> &str
     }
 }
 
-fn printed_row(alloc: Global, documents: &[Numbered], rank: &Rank) -> Result<OutRow, AllocError>
-    ensures { IfOk result (λ row. row ≡ row_of documents.now rank.now) }
+fn printed(alloc: Global, id: &str, text: &str, rank: &Rank) -> Result<OutRow, AllocError>
+    ensures { IfOk result (λ row. row
+        ≡ record { id = id.now; score = rank.now.score; seq = rank.now.seq; text = text.now }) }
 {
-    let (id, text) = match document_with(documents, rank.seq) {
-        Some(found) => (
-            found.document.id.as_str(),
-            text_of(found.document.suggestions.items(), rank.place),
-        ),
-        None => ("", ""),
-    };
     Ok(OutRow {
         id: Text::of(alloc, id)?,
         score: rank.score,
@@ -131,12 +135,29 @@ fn printed_row(alloc: Global, documents: &[Numbered], rank: &Rank) -> Result<Out
     })
 }
 
+fn printed_row(
+    alloc: Global,
+    documents: &[LiveDocument<'_>],
+    rank: &Rank,
+) -> Result<OutRow, AllocError>
+    ensures { IfOk result (λ row. row ≡ row_of documents.now rank.now) }
+{
+    match document_with(documents, rank.seq) {
+        Some(found) => {
+            let document = found.document;
+            let text = text_of(document.suggestions.items(), rank.place);
+            printed(alloc, document.id.as_str(), text, rank)
+        }
+        None => printed(alloc, "", "", rank),
+    }
+}
+
 /// The rows that a query prints. Looks at each document once, and again at some of them for each row
 /// that is printed; sorts the rows that match.
 pub fn rows_for(
     alloc: Global,
     prefix: &Key,
-    documents: &[Numbered],
+    documents: &[LiveDocument<'_>],
 ) -> Result<Vec<OutRow>, AllocError>
     ensures { IfOk result (λ rows. rows.items ≡ rows_of prefix.now documents.now) }
 {

@@ -1,117 +1,117 @@
-//! What is stored, and what each line prints.
-ghost use Rattle.std.specs.Prelude.{◌≡◌, ◌<◌, ◌^◌, ◌-◌, ◌+◌, IfOk, OnOk, option_map, Some};
-ghost use Rattle.sg_paths.specs.Operations.{operation_of, added_document};
-ghost use Rattle.wire_json.specs.Commands.{suggests, command_of};
+//! What each line does to the core, and what it prints.
+ghost use Rattle.std.specs.Prelude.{◌≡◌, ◌<◌, ◌^◌, [], IfOk, OnOk, Some, length, option_map};
+ghost use Rattle.sg_paths.specs.Operations.{operation_of};
+ghost use Rattle.sg_paths.specs.LiveDocuments.{live_documents};
+ghost use Rattle.index_core.specs.Histories.{open_views};
+ghost use Rattle.index_core.specs.OpenViews.{operations_of};
+ghost use Rattle.wire_json.specs.Commands.{command_of};
 ghost use Rattle.wire_json.specs.CommandForms.{plain_command};
 ghost use Rattle.wire_json.specs.ReplyForms.{plain_reply};
-ghost use Rattle.sg_shell.specs.Runs.{empty_store, store_after, step, standard};
+ghost use Rattle.sg_shell.specs.Answers.{rows_of};
+ghost use Rattle.sg_shell.specs.Runs.{accept_step, suggest_step, step, standard};
 
 use crate::answers::rows_for;
+use crate::live::live_documents;
+use index_core::{Core, Refused, ViewError, ViewParts, Why};
 use sg_analysis::Analyzer;
 use sg_base::{Key, List};
-use sg_paths::{Document, Numbered, Op};
+use sg_paths::Op;
 use std::alloc::{AllocError, Global};
-use std::marker::Model;
-use wire_json::{Command, LineError, Reply, command};
+use wire_json::{Command, ErrorKind, OutRow, Reply, command};
 
-/// The documents that were added, in the order of their numbers.
-#[derive(Drop)]
-pub struct Store {
-    documents: Vec<Numbered>,
-    accepted: u64,
-}
+/// The number under which the program calls its index.
+pub const CALLER: u32 = 0;
 
-impl Model for Store {
-    ghost use Rattle.sg_shell.specs.Runs.{Store as PlainStore};
-
-    ghost Value = { PlainStore };
-
-    ghost view = { λ s. record { documents = s.documents.items; accepted = s.accepted } };
-}
-
-fn added(op: Op) -> Option<Document>
-    ensures { result ≡ added_document (operation_of op) }
+fn accept(core: &mut Core, line: u64, op: Op) -> Result<Reply, AllocError>
+    requires { open_views core.old.history ≡ [] }
+    ensures reply { IfOk result (λ r. Some (plain_reply r)
+        ≡ (accept_step line (operation_of op) core.old).reply) }
+    ensures after { OnOk result (core.new ≡ (accept_step line (operation_of op) core.old).after) }
+    ensures closed { open_views core.new.history ≡ [] }
 {
-    match op {
-        Op::Add(document) | Op::Update(document) => Some(document),
-        Op::Delete(_) => None,
+    match core.accept(CALLER, op) {
+        Ok(seq) => Ok(Reply::Seq { line, seq }),
+        Err(Refused { op: _, why }) => match why {
+            Why::Full { .. } => Ok(Reply::Error {
+                line,
+                error: ErrorKind::Full,
+            }),
+            Why::Memory => Err(AllocError),
+        },
     }
 }
 
-impl Store {
-    pub fn new(alloc: Global) -> Store
-        ensures { result ≡ empty_store }
-    {
-        Store {
-            documents: Vec::new(alloc),
-            accepted: 0,
-        }
-    }
+// The rows of a query over the documents of a view that are live.
+fn rows_in(alloc: Global, parts: &ViewParts, prefix: &Key) -> Result<Vec<OutRow>, AllocError>
+    requires { length (operations_of parts.now.pieces) < 2 ^ 63 }
+    ensures { IfOk result (λ rows. rows.items ≡ rows_of prefix.now
+        (live_documents (operations_of parts.now.pieces) (length (operations_of parts.now.pieces)))) }
+{
+    let live = live_documents(alloc, parts.pieces.items())?;
+    rows_for(alloc, prefix, live.as_slice())
+}
 
-    /// Answers the operation's number. Takes constant time, amortised.
-    pub fn accept(&mut self, op: Op) -> Result<u64, AllocError>
-        requires { self.old.accepted < 2 ^ 64 - 1 }
-        ensures number { IfOk result (λ n. n ≡ self.old.accepted + 1) }
-        ensures stored { OnOk result (self.new ≡ store_after (operation_of op) self.old) }
-    {
-        let seq = self.accepted + 1;
-        if let Some(document) = added(op) {
-            self.documents.push(Numbered { seq, document })?;
-        }
-        self.accepted = seq;
-        Ok(seq)
-    }
+// The view is given back before the rows are looked at.
+fn suggest(core: &mut Core, alloc: Global, line: u64, prefix: &Key) -> Result<Reply, AllocError>
+    requires { open_views core.old.history ≡ [] }
+    ensures reply { IfOk result (λ r. Some (plain_reply r)
+        ≡ (suggest_step line prefix.now core.old).reply) }
+    ensures after { OnOk result (core.new ≡ (suggest_step line prefix.now core.old).after) }
+    ensures closed { open_views core.new.history ≡ [] }
+{
+    let upto = core.accepted();
+    let parts = match core.begin_view(CALLER) {
+        Ok(parts) => parts,
+        Err(ViewError::TooMany { .. }) => unreachable!(),
+        Err(ViewError::Memory) => return Err(AllocError),
+    };
+    let rows = rows_in(alloc, &parts, prefix);
+    let _ = core.end_view(CALLER, parts);
+    Ok(Reply::Rows {
+        line,
+        upto,
+        rows: List::of(rows?),
+    })
+}
 
-    fn query(&self, alloc: Global, line: u64, prefix: &Key) -> Result<Reply, AllocError>
-        ensures { IfOk result (λ r. Some (plain_reply r) ≡ (step line (suggests prefix.now) self.now).reply) }
-    {
-        let rows = rows_for(alloc, prefix, self.documents.as_slice())?;
-        Ok(Reply::Rows {
-            line,
-            upto: self.accepted,
-            rows: List::of(rows),
-        })
+/// What a command prints as line number `line`, if it prints anything.
+pub fn step(
+    core: &mut Core,
+    alloc: Global,
+    line: u64,
+    command: Command,
+) -> Result<Option<Reply>, AllocError>
+    requires { open_views core.old.history ≡ [] }
+    ensures reply { IfOk result (λ r. option_map plain_reply r
+        ≡ (step line (plain_command command) core.old).reply) }
+    ensures after { OnOk result (core.new ≡ (step line (plain_command command) core.old).after) }
+    ensures closed { open_views core.new.history ≡ [] }
+{
+    match command {
+        Command::Blank => Ok(None),
+        Command::Accept { op } => Ok(Some(accept(core, line, op)?)),
+        Command::Suggest { prefix } => Ok(Some(suggest(core, alloc, line, &prefix)?)),
     }
+}
 
-    /// What a command prints as line number `line`.
-    pub fn step(
-        &mut self,
-        alloc: Global,
-        line: u64,
-        command: Command,
-    ) -> Result<Option<Reply>, AllocError>
-        requires { self.old.accepted < 2 ^ 64 - 1 }
-        ensures reply { IfOk result (λ r. option_map plain_reply r
-            ≡ (step line (plain_command command) self.old).reply) }
-        ensures after { OnOk result (self.new ≡ (step line (plain_command command) self.old).after) }
-    {
-        match command {
-            Command::Blank => Ok(None),
-            Command::Accept { op } => {
-                let seq = self.accept(op)?;
-                Ok(Some(Reply::Seq { line, seq }))
-            }
-            Command::Suggest { prefix } => Ok(Some(self.query(alloc, line, &prefix)?)),
-        }
-    }
-
-    /// What a line prints as line number `line`.
-    pub fn answer(
-        &mut self,
-        alloc: Global,
-        line: u64,
-        bytes: &[u8],
-    ) -> Result<Option<Reply>, AllocError>
-        requires { self.old.accepted < 2 ^ 64 - 1 }
-        ensures reply { IfOk result (λ r. option_map plain_reply r
-            ≡ (step line (command_of standard bytes.now) self.old).reply) }
-        ensures after { OnOk result (self.new
-            ≡ (step line (command_of standard bytes.now) self.old).after) }
-    {
-        match command(alloc, bytes, &Analyzer { separators: true }) {
-            Ok(command) => self.step(alloc, line, command),
-            Err(LineError::Refused { kind }) => Ok(Some(Reply::Error { line, error: kind })),
-            Err(LineError::Memory) => Err(AllocError),
-        }
+/// What a line prints as line number `line`, if it prints anything.
+pub fn answer(
+    core: &mut Core,
+    alloc: Global,
+    line: u64,
+    bytes: &[u8],
+) -> Result<Option<Reply>, AllocError>
+    requires { open_views core.old.history ≡ [] }
+    ensures reply { IfOk result (λ r. option_map plain_reply r
+        ≡ (step line (command_of standard bytes.now) core.old).reply) }
+    ensures after { OnOk result (core.new ≡ (step line (command_of standard bytes.now) core.old).after) }
+    ensures closed { open_views core.new.history ≡ [] }
+{
+    match command(alloc, bytes, &Analyzer { separators: true }) {
+        Ok(command) => step(core, alloc, line, command),
+        Err(refused) => match refused.kind() {
+            Some(error) => Ok(Some(Reply::Error { line, error })),
+            None => Err(AllocError),
+        },
     }
 }

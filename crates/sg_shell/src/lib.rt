@@ -1,10 +1,11 @@
-//! The running program: reads an input to its end, answers its lines in order from the documents that
-//! its adds bring, and writes the replies. Contracts see input and output as bytes.
+//! The running program: reads an input to its end, answers its lines in order over the core of the
+//! index, and writes the replies. Contracts see input and output as bytes.
 #![tactic(auto)]
 
 mod answers;
 mod engine;
 mod lines;
+mod live;
 mod reading;
 mod replying;
 mod running;
@@ -12,8 +13,9 @@ mod status;
 mod writing;
 
 pub use answers::{DEFAULT_ROWS, rows_for};
-pub use engine::Store;
-pub use lines::first_line;
+pub use engine::{CALLER, answer, step};
+pub use lines::{Split, first_line};
+pub use live::{LiveDocument, live_documents};
 pub use reading::{MOST_INPUT_BYTES, PIECE_BYTES, ReadError, read_input};
 pub use replying::replies_to;
 pub use running::run;

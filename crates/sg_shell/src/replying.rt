@@ -1,20 +1,24 @@
 //! The replies to an input.
-ghost use Rattle.std.specs.Prelude.{◌≡◌, ◌≤◌, ◌<◌, ◌+◌, ◌^◌, ◌++◌, OnOk, IfOk, length, option_map};
-ghost use Rattle.std.specs.Option.{option_to_list};
+ghost use Rattle.std.specs.Prelude.{◌≡◌, ◌≤◌, ◌^◌, ◌++◌, OnOk, IfOk, length, option_map};
 ghost use Rattle.wire_json.specs.ReplyForms.{plain_reply};
-ghost use Rattle.sg_shell.specs.Runs.{text_of, output_of};
+ghost use Rattle.sg_shell.specs.Runs.{printed, output_of};
 
-use crate::engine::Store;
+use crate::engine::answer;
 use crate::lines::first_line;
+use index_core::Core;
 use std::alloc::{AllocError, Global};
 use wire_json::{Reply, reply};
 
-fn push_reply(alloc: Global, output: &mut Vec<u8>, answer: Option<Reply>) -> Result<(), AllocError>
+fn push_reply(
+    alloc: Global,
+    output: &mut Vec<u8>,
+    answered: Option<Reply>,
+) -> Result<(), AllocError>
     ensures { OnOk result (output.new.items
-        ≡ output.old.items ++ text_of (option_to_list (option_map plain_reply answer))) }
+        ≡ output.old.items ++ printed (option_map plain_reply answered)) }
 {
-    if let Some(answer) = answer {
-        let line = reply(alloc, &answer)?;
+    if let Some(answered) = answered {
+        let line = reply(alloc, &answered)?;
         output.extend_from_slice(line.as_slice())?;
     }
     Ok(())
@@ -26,15 +30,15 @@ pub fn replies_to(alloc: Global, input: &[u8]) -> Result<Vec<u8>, AllocError>
     requires { length input.now ≤ 2 ^ 30 }
     ensures { IfOk result (λ output. output.items ≡ output_of input.now) }
 {
-    let mut store = Store::new(alloc);
+    let mut core = Core::new(alloc);
     let mut output = Vec::new(alloc);
     let mut number = 0u64;
     let mut rest = input;
     while let Some(split) = first_line(rest) {
         rest = split.rest;
         number += 1;
-        let answer = store.answer(alloc, number, split.line)?;
-        push_reply(alloc, &mut output, answer)?;
+        let answered = answer(&mut core, alloc, number, split.line)?;
+        push_reply(alloc, &mut output, answered)?;
     }
     Ok(output)
 }

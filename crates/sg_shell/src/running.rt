@@ -2,7 +2,8 @@
 ghost use Rattle.std.specs.Prelude.{◌≡◌, ◌≢◌, ◌≤◌, ◌↔◌, true, false, length};
 ghost use Rattle.sg_shell.specs.Runs.{output_of};
 ghost use Rattle.sg_shell.specs.declared.reading.TheConstants.{MOST_INPUT_BYTES};
-ghost use Rattle.sg_shell.specs.Ends.{is_run, source_of, sink_of, WriteEnds, RunEnds, IsFaultless, EndsByLength};
+ghost use Rattle.sg_shell.specs.Ends.{is_run, source_of, sink_of, WriteEnds, RunEnds, IsFaultless};
+ghost use Rattle.sg_shell.specs.Ends.{EndsByLength};
 
 use crate::reading::{ReadError, read_input};
 use crate::replying::replies_to;

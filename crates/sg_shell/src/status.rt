@@ -2,7 +2,7 @@
 ghost use Rattle.std.specs.Prelude.{◌≡◌};
 ghost use Rattle.sg_shell.specs.Statuses.{code_of};
 
-/// How a run ends. It ends at the first fault.
+/// How a run ends.
 #[derive(Clone, Copy, Debug, PartialEq, Eq)]
 pub enum Status {
     /// The input was read to its end, and all replies were written.
@@ -15,7 +15,7 @@ pub enum Status {
     WriteFault,
     /// The input has more than 2^30 bytes. Nothing was written.
     TooLong,
-    /// Memory ran out, after a front of the replies.
+    /// Memory ran out, after a front of the replies or before any.
     Memory,
 }
 

@@ -3,8 +3,10 @@ ghost use Rattle.std.specs.Prelude.{◌≡◌, ◌≤◌, codes, option_map, opt
 ghost use Rattle.serde_json.specs.View.{view};
 ghost use Rattle.serde_json.specs.Find.{as_array};
 ghost use Rattle.sg_base.specs.declared.limits.TheConstants.{MOST_WEIGHT};
-ghost use Rattle.wire_json.specs.Members.{member_of, text_of};
-ghost use Rattle.wire_json.specs.Forms.{form_of, has_no_unread_member, suggestion_of, entry_of, entry_of_suggestion, entry_in, id_of, valid_id, weight_or_one, is_id};
+ghost use Rattle.wire_json.specs.Members.{member_of, text_of, whole_upto};
+ghost use Rattle.wire_json.specs.Forms.{form_of, has_no_unread_member, suggestion_of, entry_of};
+ghost use Rattle.wire_json.specs.Forms.{entry_of_suggestion, entry_in, id_of, valid_id};
+ghost use Rattle.wire_json.specs.Forms.{weight_or_one, is_id};
 ghost use Rattle.wire_json.specs.Forms as plain;
 ghost use Rattle.wire_json.specs.ReadForms.{plain_entry, plain_form, HasIdBytes, IsEntry, IsForm};
 
@@ -51,12 +53,22 @@ fn id(value: &Value) -> Option<&str>
     unless_invalid(text(value, "id"))
 }
 
+fn weight_of(given: &Value) -> Option<Weight>
+    ensures value { result ≡ whole_upto MOST_WEIGHT (view given.now) }
+    ensures most { IfSome result (λ w. w ≤ MOST_WEIGHT) }
+{
+    match whole(given, u64::from(MOST_WEIGHT)) {
+        Some(number) => Some(number as Weight),
+        None => None,
+    }
+}
+
 fn weight(suggestion: &Value) -> Option<Weight>
     ensures value { result ≡ weight_or_one (member_of (codes "weight") (view suggestion.now)) }
     ensures most { IfSome result (λ w. w ≤ MOST_WEIGHT) }
 {
     match member(suggestion, "weight") {
-        Some(given) => whole(given, MOST_WEIGHT),
+        Some(given) => weight_of(given),
         None => Some(1),
     }
 }

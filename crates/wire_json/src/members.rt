@@ -26,14 +26,14 @@ pub fn text<'v>(value: &'v Value, name: &str) -> Option<&'v str>
 }
 
 /// A whole number from 0 to `most`.
-pub fn whole(value: &Value, most: u32) -> Option<u32>
+pub fn whole(value: &Value, most: u64) -> Option<u64>
     ensures value { result ≡ whole_upto most (view value.now) }
     ensures most { IfSome result (λ n. n ≤ most) }
 {
     match value.as_u64() {
         Some(number) => {
-            if number <= most as u64 {
-                Some(number as u32)
+            if number <= most {
+                Some(number)
             } else {
                 None
             }

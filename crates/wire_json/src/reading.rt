@@ -1,17 +1,20 @@
 //! From a line to its command.
-ghost use Rattle.std.specs.Prelude.{◌≡◌, ◌<◌, ◌≤◌, nat_le, IsTrue, IfOk, IfErr, length, option_map, Some};
+ghost use Rattle.std.specs.Prelude.{◌≡◌, ◌<◌, ◌≤◌, nat_le, IsTrue, IfOk, IfErr, length, option_map};
+ghost use Rattle.std.specs.Prelude.{Some};
 ghost use Rattle.std.specs.List.{list_all};
 ghost use Rattle.serde_json.specs.View.{view};
 ghost use Rattle.sg_analysis.specs.Analysis.{analysis_of};
 ghost use Rattle.sg_paths.specs.Operations.{adds, updates, deletes};
 ghost use Rattle.sg_paths.specs.declared.limits.TheConstants.{MOST_TEXT_BYTES};
 ghost use Rattle.wire_json.specs.ReadForms.{plain_entry, plain_form, IsEntry, IsForm, HasIdBytes};
-ghost use Rattle.wire_json.specs.Commands.{key_of, input_key, accepts, command_of_form, command_by_form, command_of_value, document_of, is_blank_byte, is_blank, command_of};
-ghost use Rattle.wire_json.specs.CommandForms.{plain_command, Refuses, RefusesText, error_of, IsDocumentOf};
+ghost use Rattle.wire_json.specs.Commands.{key_of, input_key, accepts, command_of_form};
+ghost use Rattle.wire_json.specs.Commands.{command_by_form, command_of_value, document_of};
+ghost use Rattle.wire_json.specs.Commands.{is_blank_byte, is_blank, command_of};
+ghost use Rattle.wire_json.specs.CommandForms.{plain_command, Refuses, RefusesText, error_of};
+ghost use Rattle.wire_json.specs.CommandForms.{IsDocumentOf};
 
 use crate::commands::{Command, LineError, MOST_BLANK_BYTES};
 use crate::forms::{Entry, Form, read_form};
-use crate::replies::ErrorKind;
 use serde_json::{Category, Value};
 use sg_analysis::{Analyzer, KeyError};
 use sg_base::{Key, Text};
@@ -24,9 +27,7 @@ fn line_error(error: KeyError) -> LineError
     match error {
         KeyError::Memory => LineError::Memory,
         KeyError::Reserved { .. } | KeyError::Empty | KeyError::TooLong { .. } => {
-            LineError::Refused {
-                kind: ErrorKind::Key,
-            }
+            LineError::Key
         }
     }
 }
@@ -41,9 +42,7 @@ fn key(alloc: Global, analyzer: &Analyzer, text: &str, cut: bool) -> Result<Key,
     ensures within { IfOk result (λ _. length text.now ≤ MOST_TEXT_BYTES) }
 {
     if text.len() > MOST_TEXT_BYTES {
-        return Err(LineError::Refused {
-            kind: ErrorKind::Key,
-        });
+        return Err(LineError::Key);
     }
     match analyzer.key(alloc, text, cut) {
         Ok(key) => Ok(key),
@@ -131,9 +130,7 @@ fn command_by_value(alloc: Global, analyzer: &Analyzer, value: &Value) -> Result
 {
     match read_form(value) {
         Some(form) => command_for(alloc, analyzer, form),
-        None => Err(LineError::Refused {
-            kind: ErrorKind::Shape,
-        }),
+        None => Err(LineError::Shape),
     }
 }
 
@@ -168,9 +165,7 @@ pub fn command(alloc: Global, line: &[u8], analyzer: &Analyzer) -> Result<Comman
         Ok(value) => command_by_value(alloc, analyzer, &value),
         Err(error) => match error.classify() {
             Category::Memory => Err(LineError::Memory),
-            _ => Err(LineError::Refused {
-                kind: ErrorKind::Json,
-            }),
+            _ => Err(LineError::Json),
         },
     }
 }

@@ -2,7 +2,8 @@
 ghost use Rattle.std.specs.Prelude.{◌≡◌, ◌++◌, ◌∷◌, [], IfOk, map};
 ghost use Rattle.serde_json.specs.View.{view};
 ghost use Rattle.serde_json.specs.Written.{has_float};
-ghost use Rattle.wire_json.specs.Replies.{name_of, row_data, reply_data, reply_text, numbered_data, rows_data, failed_data};
+ghost use Rattle.wire_json.specs.Replies.{name_of, row_data, reply_data, reply_text, numbered_data};
+ghost use Rattle.wire_json.specs.Replies.{rows_data, failed_data};
 ghost use Rattle.wire_json.specs.ReplyForms.{plain_reply};
 
 use crate::replies::{ErrorKind, OutRow, Reply};

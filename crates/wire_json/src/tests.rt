@@ -6,17 +6,11 @@ use std::alloc::Global;
 use std::process::Abort;
 use std::test::Fail;
 
-const REFUSED_FOR_JSON: Result<&str, LineError> = Err(LineError::Refused {
-    kind: ErrorKind::Json,
-});
+const REFUSED_FOR_JSON: Result<&str, LineError> = Err(LineError::Json);
 
-const REFUSED_FOR_SHAPE: Result<&str, LineError> = Err(LineError::Refused {
-    kind: ErrorKind::Shape,
-});
+const REFUSED_FOR_SHAPE: Result<&str, LineError> = Err(LineError::Shape);
 
-const REFUSED_FOR_KEY: Result<&str, LineError> = Err(LineError::Refused {
-    kind: ErrorKind::Key,
-});
+const REFUSED_FOR_KEY: Result<&str, LineError> = Err(LineError::Key);
 
 // Lines, whether separators are on, and what is asked for: a document with its id, and of each
 // suggestion the text, the key, the weight and the number of contexts.
@@ -214,9 +208,7 @@ fn rows_are_a_line(rt: HostRuntime) -> Result<(), Fail> {
 
 #[test]
 fn errors_have_a_line(rt: HostRuntime) -> Result<(), Fail> {
-    let refused = LineError::Refused {
-        kind: ErrorKind::Shape,
-    };
+    let refused = LineError::Shape;
     let alloc = rt.alloc();
     assert_eq!(rt;
         refused.to_string(alloc)?.as_str(),

@@ -1,15 +1,15 @@
 -- The output so far and that of the lines to come are the output to all.
-use Rattle.std.proofs.Common.{◌≡◌, ◌≤◌, ◌+◌, ◌++◌, length, map}
-use Rattle.wire_json.specs.Commands.{command_of}
-use Rattle.sg_shell.specs.Lines.{lines_of}
-use Rattle.sg_shell.specs.Runs.{text_of, replies_from, commands_of, output_of}
+use Rattle.std.proofs.Common.{◌≡◌, ◌≤◌, ◌+◌, ◌++◌, [], length}
+use Rattle.index_core.specs.Histories.{open_views}
+use Rattle.sg_shell.specs.Runs.{output, output_of}
+use Rattle.sg_shell.proofs.ReplyLemmas.{transcript_to_come}
 use Rattle.sg_shell.proofs.replying.replies_to.Given as goal
 
 abbrev pub invariant-loop-split : goal.invariant-loop-split
 invariant-loop-split l =
-    (l.output.items ++ text_of (replies_from (l.number + 1) l.store (commands_of l.rest)) ≡ output_of l.input)
+    (l.output.items ++ output (transcript_to_come l.core (l.number + 1) l.rest) ≡ output_of l.input)
     × (l.number + length l.rest ≤ length l.input)
-    × (l.store.accepted ≤ l.number)
+    × (open_views l.core.history ≡ [])
 
 abbrev pub decreases-loop-split : goal.decreases-loop-split
 decreases-loop-split l = length l.rest

@@ -1,0 +1,6 @@
+pub mod HistoryLemmas
+pub mod LegalLemmas
+pub mod ViewLemmas
+pub mod ReleasedLemmas
+pub mod KeptLemmas
+pub mod MachineLemmas

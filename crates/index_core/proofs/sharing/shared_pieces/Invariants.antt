@@ -1,0 +1,6 @@
+-- So far the first pieces are shared.
+use Rattle.std.proofs.Common.{◌≡◌, take}
+use Rattle.index_core.proofs.sharing.shared_pieces.Given as goal
+
+abbrev pub invariant-loop-piece : goal.invariant-loop-piece
+invariant-loop-piece l = l.copies.items ≡ take l.piece-index l.pieces

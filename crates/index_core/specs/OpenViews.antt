@@ -1,0 +1,61 @@
+-- What a view holds: pieces of consecutive operations. Source: Lucene's point-in-time readers.
+use Rattle.std.specs.Prelude.{◌≡◌, ⊤, ℕ, ◌+◌, not, nat_eq, List, [], ◌∷◌, length, map, filter, take}
+use Rattle.std.specs.List.{flat_map}
+use Rattle.sg_paths.specs.Operations.{Operation, NumberedDocument, PlainBatch, documents_from}
+use Rattle.index_core.specs.Histories.{Record, View}
+
+-- a generation with its batch
+pub record PlainPiece : Type 0 where
+  pub generation : ℕ
+  pub batch : PlainBatch
+
+-- the views with another number
+abbrev pub without : ℕ → List View → List View
+without number views = filter (λ v. not (nat_eq v.view number)) views
+
+-- operations with these numbers, under a generation
+abbrev pub piece_of : ℕ → ℕ → ℕ → List Operation → PlainPiece
+piece_of generation from upto operations = record {
+  generation = generation;
+  batch = record { from = from; upto = upto; operations = operations };
+}
+
+-- what the caller of a view gets
+pub record PlainParts : Type 0 where
+  pub view : ℕ
+  pub upto : ℕ
+  pub pieces : List PlainPiece
+  pub generations : List ℕ
+
+-- the view that the parts are of
+abbrev pub view_of : ℕ → PlainParts → View
+view_of caller parts =
+    record {
+      caller = caller;
+      view = parts.view;
+      upto = parts.upto;
+      generations = parts.generations;
+    }
+
+-- the operations of the pieces, in order
+abbrev pub operations_of : List PlainPiece → List Operation
+operations_of pieces = flat_map (λ piece. piece.batch.operations) pieces
+
+-- the documents that the pieces add, by number
+abbrev pub documents_in : List PlainPiece → List NumberedDocument
+documents_in pieces =
+    flat_map (λ piece. documents_from piece.batch.from piece.batch.operations) pieces
+
+-- each piece says the numbers of its operations, and the first of all is n
+abbrev pub AreNumberedFrom : ℕ → List PlainPiece → Type 0
+AreNumberedFrom n [] = ⊤
+AreNumberedFrom n (piece ∷ later) =
+    (piece.batch.from ≡ n) × (piece.batch.upto + 1 ≡ n + length piece.batch.operations)
+    × AreNumberedFrom (n + length piece.batch.operations) later
+
+-- the parts hold the first upto operations of the record, by number, in their generations
+pub record HoldsFirst (r : Record) (parts : PlainParts) : Type 0 where
+  pub operations : operations_of parts.pieces ≡ take parts.upto r.journal
+  pub numbered : AreNumberedFrom 1 parts.pieces
+  pub documents : documents_in parts.pieces ≡ documents_from 1 (take parts.upto r.journal)
+  pub of_generations : map (λ piece. piece.generation) parts.pieces ≡ parts.generations

@@ -1,0 +1,105 @@
+-- What an output says of an input, for one worker and one phase. Source: this project's own; the
+-- numbers and refreshes are those of Lucene's IndexWriter and its near-real-time readers.
+use Rattle.std.specs.Prelude.{◌≡◌, ◌≤◌, ◌<◌, ◌⊎◌, ⊤, ℕ, Bool, true, false, not, List, [], ◌∷◌}
+use Rattle.std.specs.Prelude.{length, map, filter, Option, Some, None, IfSome, All, AllPairs}
+use Rattle.std.specs.List.{filter_map, enumerate_from}
+use Rattle.sg_paths.specs.Operations.{Operation}
+use Rattle.sg_paths.specs.LiveDocuments.{live_documents}
+use Rattle.index_core.specs.declared.limits.TheConstants.{MOST_OPERATIONS}
+use Rattle.wire_json.specs.Commands.{Command, blank, accepts, suggests, refused}
+use Rattle.wire_json.specs.Replies.{Reply, numbered, rows, failed}
+use Rattle.wire_json.specs.Rows.{Row}
+use Rattle.wire_json.specs.declared.replies.ErrorKind.TheVariants.{Full}
+use Rattle.sg_shell.specs.Answers.{rows_of}
+use Rattle.sg_shell.specs.Runs.{Line, Said, input_lines, output}
+
+-- whether a line has a reply
+abbrev pub wants_reply : Command → Bool
+wants_reply blank = false
+wants_reply (accepts operation) = true
+wants_reply (suggests prefix) = true
+wants_reply (refused kind) = true
+
+-- the sequence number that a reply prints
+abbrev pub number_printed : Reply → Option ℕ
+number_printed (numbered line seq) = Some seq
+number_printed (rows line upto rs) = None
+number_printed (failed line kind) = None
+
+-- how many operations the rows of a reply are over
+abbrev pub upto_printed : Reply → Option ℕ
+upto_printed (numbered line seq) = None
+upto_printed (rows line upto rs) = Some upto
+upto_printed (failed line kind) = None
+
+-- an operation with its number, of a line that asks for one and prints the other
+abbrev pub with_number : Command → Option ℕ → Option (ℕ × Operation)
+with_number command None = None
+with_number (accepts operation) (Some seq) = Some (seq, operation)
+with_number blank (Some seq) = None
+with_number (suggests prefix) (Some seq) = None
+with_number (refused kind) (Some seq) = None
+
+abbrev pub numbered_operation : Said → Option (ℕ × Operation)
+numbered_operation e = with_number e.line.command (number_printed e.reply)
+
+-- an operation is refused because the index is full
+abbrev pub IsRefusedAsFull : Command → ℕ → Reply → Type 0
+IsRefusedAsFull blank line r = ⊥
+IsRefusedAsFull (accepts operation) line r = r ≡ failed line Full
+IsRefusedAsFull (suggests prefix) line r = ⊥
+IsRefusedAsFull (refused kind) line r = ⊥
+
+abbrev pub IsFull : Said → Type 0
+IsFull e = IsRefusedAsFull e.line.command e.line.number e.reply
+
+-- the replies that a line may have, by what it asks for: its own error exactly, else of its kind
+abbrev pub MayReply : Command → ℕ → Reply → Type 0
+MayReply blank line r = ⊥
+MayReply (accepts operation) line r = ((seq : ℕ) × (r ≡ numbered line seq)) ⊎ (r ≡ failed line Full)
+MayReply (suggests prefix) line r = (upto : ℕ) × (rs : List Row) × (r ≡ rows line upto rs)
+MayReply (refused kind) line r = r ≡ failed line kind
+
+-- a query's rows are the first of the answer over the documents live after so many operations
+abbrev pub PrintsRows : List Operation → List ℕ → Reply → Type 0
+PrintsRows journal prefix (rows line upto rs) = rs ≡ rows_of prefix (live_documents journal upto)
+PrintsRows journal prefix (numbered line seq) = ⊥
+PrintsRows journal prefix (failed line kind) = ⊥
+
+abbrev pub IsAnswered : List Operation → Command → Reply → Type 0
+IsAnswered journal blank r = ⊤
+IsAnswered journal (accepts operation) r = ⊤
+IsAnswered journal (suggests prefix) r = PrintsRows journal prefix r
+IsAnswered journal (refused kind) r = ⊤
+
+-- what the reply to a line says of that to a later one
+pub record StandsBefore (e f : Said) : Type 0 where
+  -- numbers rise
+  pub numbers : IfSome (number_printed e.reply) (λ m. IfSome (number_printed f.reply) (λ n. m < n))
+  -- rows are over all that was numbered before
+  pub sees : IfSome (number_printed e.reply) (λ m. IfSome (upto_printed f.reply) (λ u. m ≤ u))
+  -- and over no less than rows before
+  pub never_back : IfSome (upto_printed e.reply) (λ v. IfSome (upto_printed f.reply) (λ u. v ≤ u))
+  -- and over nothing that is numbered later
+  pub foresees_none : IfSome (upto_printed e.reply) (λ u. IfSome (number_printed f.reply) (λ n. u < n))
+  -- nothing is numbered once the index is full
+  pub full_last : IsFull e → number_printed f.reply ≡ None
+
+-- One reply for each line that wants one, in order, and nothing else. The lines with a number are
+-- numbered 1 to m, and their operations are the journal.
+pub record IsSession (input out : List ℕ) (t : List Said) (journal : List Operation) : Type 0 where
+  pub replied : map (λ e. e.line) t ≡ filter (λ l. wants_reply l.command) (input_lines input)
+  pub written : out ≡ output t
+  pub answers : All (λ e. MayReply e.line.command e.line.number e.reply) t
+  pub numbers : filter_map numbered_operation t ≡ enumerate_from 1 journal
+  pub most : length journal ≤ MOST_OPERATIONS
+  pub full : All (λ e. IsFull e → length journal ≡ MOST_OPERATIONS) t
+  pub ordered : AllPairs StandsBefore t
+  pub at_most : All (λ e. IfSome (upto_printed e.reply) (λ u. u ≤ length journal)) t
+  pub answered : All (λ e. IsAnswered journal e.line.command e.reply) t
+
+-- an output that is a session of an input, with its transcript and its journal
+pub record Session (input out : List ℕ) : Type 0 where
+  pub transcript : List Said
+  pub journal : List Operation
+  pub is_session : IsSession input out transcript journal

@@ -1,0 +1,182 @@
+//! The live documents of a view, by a scan over its pieces.
+ghost use Rattle.std.specs.Prelude.{◌≡◌, ◌<◌, ◌+◌, ◌^◌, ◌++◌, ℕ, List, [], ◌∷◌, IfOk, OnOk, None};
+ghost use Rattle.std.specs.Prelude.{length, map, option_map, unwrap_or};
+ghost use Rattle.std.specs.Option.{option_copied};
+ghost use Rattle.sg_paths.specs.Operations.{operation_of, added_document, deleted_id};
+ghost use Rattle.sg_paths.specs.Operations.{documents_from};
+ghost use Rattle.sg_paths.specs.LiveDocuments.{live_documents};
+ghost use Rattle.index_core.specs.OpenViews.{operations_of};
+ghost use Rattle.sg_shell.specs.LastDeletes.{last_of, delete_after, last_delete, undeleted};
+
+use index_core::Piece;
+use sg_paths::{Document, Op};
+use std::alloc::{AllocError, Global};
+use std::collections::HashMap;
+use std::marker::Model;
+
+/// A document of a piece, with the number of the operation that added it.
+#[derive(Drop)]
+pub struct LiveDocument<'p> {
+    pub seq: u64,
+    pub document: &'p Document,
+}
+
+impl<'p> Model for LiveDocument<'p> {
+    ghost use Rattle.sg_paths.specs.Operations.{NumberedDocument};
+
+    ghost Value = { NumberedDocument };
+
+    ghost view = { λ d. record { seq = d.seq; document = d.document.now } };
+}
+
+// By id, the number of the last operation that deletes it.
+type LastDeletes<'p> = HashMap<&'p str, u64>;
+
+fn document_of(op: &Op) -> Option<&Document>
+    ensures { option_copied result ≡ added_document (operation_of op.now) }
+{
+    match op {
+        Op::Add(document) => Some(document),
+        Op::Update(document) => Some(document),
+        Op::Delete(_) => None,
+    }
+}
+
+fn id_deleted_by(op: &Op) -> Option<&str>
+    ensures { option_map (λ id. id.now) result ≡ deleted_id (operation_of op.now) }
+{
+    match op {
+        Op::Add(_) => None,
+        Op::Update(document) => Some(document.id.as_str()),
+        Op::Delete(id) => Some(id.as_str()),
+    }
+}
+
+fn mark<'p>(last: &mut LastDeletes<'p>, op: &'p Op, seq: u64) -> Result<(), AllocError>
+    ensures { OnOk result ((id : List ℕ) → last_of last.new id
+        ≡ delete_after id seq (operation_of op.now) (last_of last.old id)) }
+{
+    if let Some(id) = id_deleted_by(op) {
+        last.insert(id, seq)?;
+    }
+    Ok(())
+}
+
+fn mark_all<'p>(last: &mut LastDeletes<'p>, ops: &'p [Op], from: u64) -> Result<(), AllocError>
+    requires { from + length ops.now < 2 ^ 64 }
+    ensures { OnOk result ((id : List ℕ) → last_of last.new id
+        ≡ last_delete id from (map operation_of ops.now) (last_of last.old id)) }
+{
+    let mut seq = from;
+    for op in ops {
+        mark(last, op, seq)?;
+        seq += 1;
+    }
+    Ok(())
+}
+
+// Marks the operations of a piece, and answers the number of the next one.
+fn mark_piece<'p>(
+    last: &mut LastDeletes<'p>,
+    piece: &'p Piece,
+    from: u64,
+) -> Result<u64, AllocError>
+    requires { from + length piece.now.batch.operations < 2 ^ 64 }
+    ensures next { IfOk result (λ next. next ≡ from + length piece.now.batch.operations) }
+    ensures marked { OnOk result ((id : List ℕ) → last_of last.new id
+        ≡ last_delete id from piece.now.batch.operations (last_of last.old id)) }
+{
+    let ops = piece.batch.ops.items();
+    mark_all(last, ops, from)?;
+    Ok(from + ops.len() as u64)
+}
+
+fn last_deletes<'p>(alloc: Global, pieces: &'p [Piece]) -> Result<LastDeletes<'p>, AllocError>
+    requires { length (operations_of pieces.now) < 2 ^ 63 }
+    ensures { IfOk result (λ last. (id : List ℕ)
+        → last_of last id ≡ last_delete id 1 (operations_of pieces.now) None) }
+{
+    let mut last = HashMap::new(alloc);
+    let mut from = 1u64;
+    for piece in pieces {
+        from = mark_piece(&mut last, piece, from)?;
+    }
+    Ok(last)
+}
+
+fn deleted_by(last: &LastDeletes<'_>, id: &str) -> u64
+    ensures { result ≡ unwrap_or (last_of last.now id.now) 0 }
+{
+    last.get(id).copied().unwrap_or(0)
+}
+
+fn push_live<'p>(
+    live: &mut Vec<LiveDocument<'p>>,
+    last: &LastDeletes<'p>,
+    op: &'p Op,
+    seq: u64,
+) -> Result<(), AllocError>
+    ensures { OnOk result (live.new.items ≡ live.old.items
+        ++ undeleted (last_of last.now) (documents_from seq (operation_of op.now ∷ []))) }
+{
+    if let Some(document) = document_of(op) {
+        if deleted_by(last, document.id.as_str()) <= seq {
+            live.push(LiveDocument { seq, document })?;
+        }
+    }
+    Ok(())
+}
+
+fn push_all_live<'p>(
+    live: &mut Vec<LiveDocument<'p>>,
+    last: &LastDeletes<'p>,
+    ops: &'p [Op],
+    from: u64,
+) -> Result<(), AllocError>
+    requires { from + length ops.now < 2 ^ 64 }
+    ensures { OnOk result (live.new.items ≡ live.old.items
+        ++ undeleted (last_of last.now) (documents_from from (map operation_of ops.now))) }
+{
+    let mut seq = from;
+    for op in ops {
+        push_live(live, last, op, seq)?;
+        seq += 1;
+    }
+    Ok(())
+}
+
+// Pushes the live documents of a piece, and answers the number of the next operation.
+fn push_piece_live<'p>(
+    live: &mut Vec<LiveDocument<'p>>,
+    last: &LastDeletes<'p>,
+    piece: &'p Piece,
+    from: u64,
+) -> Result<u64, AllocError>
+    requires { from + length piece.now.batch.operations < 2 ^ 64 }
+    ensures next { IfOk result (λ next. next ≡ from + length piece.now.batch.operations) }
+    ensures pushed { OnOk result (live.new.items ≡ live.old.items
+        ++ undeleted (last_of last.now) (documents_from from piece.now.batch.operations)) }
+{
+    let ops = piece.batch.ops.items();
+    push_all_live(live, last, ops, from)?;
+    Ok(from + ops.len() as u64)
+}
+
+/// The documents of the pieces that no later operation of theirs deletes, by number, where the first
+/// operation has the number 1. Two passes over all operations, and a map of the ids that are deleted.
+pub fn live_documents<'p>(
+    alloc: Global,
+    pieces: &'p [Piece],
+) -> Result<Vec<LiveDocument<'p>>, AllocError>
+    requires { length (operations_of pieces.now) < 2 ^ 63 }
+    ensures { IfOk result (λ live. live.items ≡ live_documents (operations_of pieces.now)
+        (length (operations_of pieces.now))) }
+{
+    let last = last_deletes(alloc, pieces)?;
+    let mut live = Vec::new(alloc);
+    let mut from = 1u64;
+    for piece in pieces {
+        from = push_piece_live(&mut live, &last, piece, from)?;
+    }
+    Ok(live)
+}
