@@ -27,9 +27,11 @@ rank_cmp_exact x y ties =
     let by_seq = each_ties _ (nat_cmp x.seq y.seq) by_place.0 in
     let by_key = each_ties (nat_cmp y.score x.score) (slice_cmp nat_cmp x.key y.key) by_seq.0 in
     let score : x.score ≡ y.score = sym (nat_cmp-IsAntisymmetric y.score x.score by_key.0) in
-    let key : x.key ≡ y.key = slice_cmp-IsAntisymmetric nat_cmp-IsAntisymmetric x.key y.key by_key.1 in
+    let key : x.key ≡ y.key =
+    slice_cmp-IsAntisymmetric nat_cmp-IsAntisymmetric x.key y.key by_key.1 in
     let seq : x.seq ≡ y.seq = nat_cmp-IsAntisymmetric x.seq y.seq by_seq.1 in
     let place : x.place ≡ y.place = nat_cmp-IsAntisymmetric x.place y.place by_place.1 in
     ap (λ s. rank_with s x.key x.seq x.place) score
     ∙ ap (λ k. rank_with y.score k x.seq x.place) key
-    ∙ (ap (λ n. rank_with y.score y.key n x.place) seq ∙ ap (λ p. rank_with y.score y.key y.seq p) place)
+    ∙ (ap (λ n. rank_with y.score y.key n x.place) seq
+    ∙ ap (λ p. rank_with y.score y.key y.seq p) place)

@@ -1,5 +1,5 @@
 -- A sorted permutation of a list is the list in order, where only equals tie.
-use Rattle.std.proofs.Common.{◌≡◌, ◌<◌, ◌+◌, ℕ, Bool, true, false, cond, List, [], ◌∷◌, refl, sym}
+use Rattle.std.proofs.Common.{◌≡◌, ◌+◌, ℕ, Bool, true, false, cond, List, [], ◌∷◌, refl, sym}
 use Rattle.std.proofs.Common.{ap, ◌∙◌, arith, add-one, zero-add, Ordering}
 use Rattle.std.specs.Ordering.{is_lt, ordering_reverse}
 use Rattle.std.specs.declared.cmp.Ordering.TheVariants.{Less, Equal, Greater}
@@ -68,8 +68,10 @@ module _ {X : Type 0} (R : X → X → Ordering) (total : IsTotalOrder R)
   rising_unique [] (y ∷ ys) p q sums = absurd (let h = sums (λ _. 1) in omega (arith, h))
   rising_unique (x ∷ xs) [] p q sums = absurd (let h = sums (λ _. 1) in omega (arith, h))
   rising_unique (x ∷ xs) (y ∷ ys) p q sums =
-      let left : total_of (below y) (y ∷ ys) ≡ 0 = none_counted y (y ∷ ys) (not_below_itself y, q.0) in
-      let right : total_of (below x) (x ∷ xs) ≡ 0 = none_counted x (x ∷ xs) (not_below_itself x, p.0) in
+      let left : total_of (below y) (y ∷ ys) ≡ 0 =
+      none_counted y (y ∷ ys) (not_below_itself y, q.0) in
+      let right : total_of (below x) (x ∷ xs) ≡ 0 =
+      none_counted x (x ∷ xs) (not_below_itself x, p.0) in
       let x_not_below : is_lt (R x y) ≡ false = not_counted _ _ (sums (below y) ∙ left) in
       let y_not_below : is_lt (R y x) ≡ false = not_counted _ _ (sym (sums (below x)) ∙ right) in
       let first : x ≡ y = neither_below (R x y) x y refl x_not_below y_not_below in
@@ -95,7 +97,8 @@ module _ {X : Type 0} (R : X → X → Ordering) (total : IsTotalOrder R)
       total_of-put_in f x (in_order R xs) ∙ ap (λ n. f x + n) (total_of-in_order f xs)
 
   -- and gives a rising list
-  none_below_more : (x y : X) (zs : List X) → is_lt (R y x) ≡ false → NoneBelow y zs → NoneBelow x zs
+  none_below_more : (x y : X) (zs : List X) → is_lt (R y x) ≡ false → NoneBelow y zs
+      → NoneBelow x zs
   none_below_more x y [] p q = tt
   none_below_more x y (z ∷ zs) p q = (strict.chain z y x q.0 p, none_below_more x y zs p q.1)
 
@@ -128,19 +131,24 @@ module _ {X : Type 0} (R : X → X → Ordering) (total : IsTotalOrder R)
   -- std's sorted lists rise
   sorted-tail : (x : X) (xs : List X) → IsSorted R (x ∷ xs) → IsSorted R xs
   sorted-tail x xs up k d z h =
-      let e = up (k + 1) d (omega arith) (omega arith) in rw (add-one k) (rw (add-one (k + 1), add-one k) at e)
+      let e = up (k + 1) d (omega arith) (omega arith) in
+      rw (add-one k) (rw (add-one (k + 1), add-one k) at e)
 
   first_least : (x : X) (xs : List X) → IsSorted R (x ∷ xs) → All (λ y. is_lt (R y x) ≡ false) xs
   first_least x xs up k d h =
-      let e = sorted_far (λ x y. is_lt (R x y)) strict (x ∷ xs) up 0 (k + 1) d (omega arith) (omega arith) in
+      let e = sorted_far (λ x y. is_lt (R x y)) strict (x ∷ xs) up 0 (k + 1) d
+      (omega arith) (omega arith) in
       rw (add-one k) at e
 
   rises-sorted : (xs : List X) → IsSorted R xs → Rises xs
   rises-sorted [] up = tt
-  rises-sorted (x ∷ xs) up =
-      (recursion_from_All (λ y. is_lt (R y x) ≡ false) xs (first_least x xs up), rises-sorted xs (sorted-tail x xs up))
+  rises-sorted (x ∷ xs) up = (
+    recursion_from_All (λ y. is_lt (R y x) ≡ false) xs (first_least x xs up),
+    rises-sorted xs (sorted-tail x xs up),
+  )
 
-  pub sorted_is_in_order : (xs ys : List X) → IsPermutation xs ys → IsSorted R ys → ys ≡ in_order R xs
+  pub sorted_is_in_order : (xs ys : List X) → IsPermutation xs ys → IsSorted R ys
+      → ys ≡ in_order R xs
   sorted_is_in_order xs ys moved up =
       rising_unique ys (in_order R xs) (rises-sorted ys up) (rises-in_order xs) (λ f.
       sym (sum_by-total_of f ys)

@@ -1,6 +1,6 @@
--- The order of rows, after Lucene's collector: a greater score first. Between equal scores the order
--- is this project's own: by key, then by the document's number, then by the suggestion's place.
-use Rattle.std.specs.Prelude.{ℕ, List, [], ◌∷◌, if◌then◌else◌}
+-- The order of rows, after Lucene's collector: a greater score first. Between equal scores the
+-- order is this project's own: by key, by the document's number, by the suggestion's place.
+use Rattle.std.specs.Prelude.{List, [], ◌∷◌, if◌then◌else◌}
 use Rattle.std.specs.declared.cmp.Ordering.{Ordering}
 use Rattle.std.specs.Cmp.Lexicographic.{slice_cmp}
 use Rattle.std.specs.Ordering.{nat_cmp, is_lt, on, flip_args, then_cmp}

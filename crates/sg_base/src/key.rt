@@ -62,7 +62,7 @@ impl Eq for Key {
 }
 
 impl Key {
-    /// Takes bytes over, without a copy. Hands them back exactly where they are no key.
+    /// Takes bytes over, without a copy.
     pub fn of(bytes: Bytes) -> Result<Key, Bytes>
         ensures { MatchResult result
             (λ k. (is_key bytes.items ≡ true) × (k ≡ bytes.items))

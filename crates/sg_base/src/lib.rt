@@ -1,4 +1,4 @@
-//! The types that every layer speaks of: bytes, texts, lists, keys, contexts, and the order of rows.
+//! The types that every layer speaks of: bytes, texts, lists, keys, contexts and the order of rows.
 //! Contracts see a text or a key as its bytes, and bytes or a list as its items with its places.
 #![tactic(auto)]
 

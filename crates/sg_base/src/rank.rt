@@ -11,8 +11,8 @@ use crate::key::Key;
 use std::alloc::AllocError;
 use std::cmp::Ordering;
 
-/// Where a row stands: a greater score first, then the lesser key, the lesser sequence number of the
-/// document, and the lesser place of the suggestion in its document.
+/// Where a row stands: a greater score first, then the lesser key, the lesser sequence number of
+/// the document, and the lesser place of the suggestion in its document.
 #[derive(Debug, Drop, PartialEq, Eq)]
 pub struct Rank {
     /// Weight times boost.
@@ -46,7 +46,8 @@ impl Ord for Rank {
 impl PartialOrd for Rank {
     ghost partial_cmp = { as_partial_cmp rank_cmp };
 
-    ghost laws = { partial_order_from_own_ties (Prim.search (comparing, rules) depth 9) (Prim.search (comparing, rules) depth 9) };
+    ghost laws = { partial_order_from_own_ties
+        (Prim.search (comparing, rules) depth 9) (Prim.search (comparing, rules) depth 9) };
 
     fn partial_cmp(&self, other: &Rank) -> Option<Ordering> {
         Some(self.cmp(other))

@@ -14,4 +14,5 @@ in_order_on_ok (Ok u) xs ys moved up =
 in_order_on_ok (Err e) xs ys moved up = tt
 
 pub returns-clause-ok : goal.returns-clause-ok
-returns-clause-ok c = in_order_on_ok c.sort.result _ _ c.sort.ensures.permutation c.sort.ensures.sorted
+returns-clause-ok c =
+    in_order_on_ok c.sort.result _ _ c.sort.ensures.permutation c.sort.ensures.sorted
