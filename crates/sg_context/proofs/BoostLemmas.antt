@@ -105,4 +105,5 @@ at_most-boost_of [] context q (k, within, at) is = absurd (omega (arith, within)
 at_most-boost_of (x ∷ xs) context q contains is =
     let counting = matching_boosts (x ∷ xs) context in
     at_most-reduce_max counting q.boost
-    (All-contains (CountsAmong counting context) (x ∷ xs) q (all_count (x ∷ xs) context) contains is)
+    (All-contains (CountsAmong counting context) (x ∷ xs) q (all_count
+    (x ∷ xs) context) contains is)

@@ -38,7 +38,8 @@ module _ {S K : Type 0} (s : SourceMembers S) (k : SinkMembers K) where
   -- the output to what was read is a session of it
   answers : (status : Status) (source source' : S) (sink sink' : K) (input : List ℕ)
       → ReadsToTheEnd s.left s.faults s.ended source source' input
-      → WriteEnds k (output_of input) status sink sink' → AnswersInput s k status source source' sink sink'
+      → WriteEnds k (output_of input) status sink sink'
+      → AnswersInput s k status source source' sink sink'
   answers status source source' sink sink' input read ends = record {
     input = input;
     output = output_of input;
@@ -51,7 +52,8 @@ module _ {S K : Type 0} (s : SourceMembers S) (k : SinkMembers K) where
   -- a run that reads to the end ends as its writing does
   pub run_ends-read : (status : Status) (source source' : S) (sink sink' : K) (input : List ℕ)
       → ReadsToTheEnd s.left s.faults s.ended source source' input
-      → WriteEnds k (output_of input) status sink sink' → RunEnds s k status source source' sink sink'
+      → WriteEnds k (output_of input) status sink sink'
+      → RunEnds s k status source source' sink sink'
   run_ends-read Done source source' sink sink' input read ends =
       answers Done source source' sink sink' input read ends
   run_ends-read Usage source source' sink sink' input read ends = absurd ends
@@ -81,13 +83,16 @@ module _ {S K : Type 0} (s : SourceMembers S) (k : SinkMembers K) where
         within = λ _. inl refl;
         over = λ over.
             let read = ends.read in
-            let long = taken_whole (s.left source) (s.left source') ends.input read.moved read.nothing_left over in
+            let long = taken_whole (s.left source)
+            (s.left source') ends.input read.moved read.nothing_left over in
             let short = read.bound in
             absurd (omega arith);
       }
   ends_by_length Usage source source' sink sink' runs ends clean = absurd (runs refl)
-  ends_by_length ReadFault source source' sink sink' runs ends clean = absurd (clean.reading ends.0.rose)
-  ends_by_length WriteFault source source' sink sink' runs ends clean = absurd (clean.writing ends.written.rose)
+  ends_by_length ReadFault source source' sink sink' runs ends clean =
+      absurd (clean.reading ends.0.rose)
+  ends_by_length WriteFault source source' sink sink' runs ends clean =
+      absurd (clean.writing ends.written.rose)
   ends_by_length TooLong source source' sink sink' runs ends clean =
       record {
         within = λ within.

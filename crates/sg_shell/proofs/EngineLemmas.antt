@@ -32,7 +32,8 @@ pub open_views-accept : (r : Record) (operation : Operation)
 open_views-accept r operation =
     let added = with_operation caller operation r in
     let one = open_views-skip r.history _ refl refl in
-    open_views-if (nat_eq (buffered added.history) MOST_BUFFERED) _ added _ (open_views-freeze added ∙ one) one
+    open_views-if (nat_eq (buffered added.history) MOST_BUFFERED) _ added _
+    (open_views-freeze added ∙ one) one
 
 -- a view of all operations holds the journal
 pub parts_hold : (r new : Record) (parts : PlainParts) → accepted r.history ≡ length r.journal
@@ -41,16 +42,19 @@ pub parts_hold : (r new : Record) (parts : PlainParts) → accepted r.history �
 parts_hold r new parts counted begun is holds =
     let begins = gains-begin r in
     let upto : parts.upto ≡ length r.journal =
-    ap (λ (v : View). v.upto) begun ∙ ((gains-freeze r).counted ∙ (add-zero (accepted r.history) ∙ counted)) in
+    ap (λ (v : View). v.upto) begun ∙ ((gains-freeze r).counted ∙ (add-zero (accepted r.history)
+    ∙ counted)) in
     let journal : new.journal ≡ r.journal =
     ap (λ (s : Record). s.journal) is ∙ (begins.journal ∙ append-nil r.journal) in
     holds.operations ∙ rw (upto, journal) (take-length r.journal)
 
 -- so the rows of the view are those of the journal
-pub rows-view : (line upto : ℕ) (prefix : List ℕ) (operations journal : List Operation) (counted : ℕ)
+pub rows-view : (line upto : ℕ) (prefix : List ℕ) (operations journal : List Operation)
+    (counted : ℕ)
     (given shown : List Row) → upto ≡ counted → counted ≡ length journal → operations ≡ journal
     → given ≡ shown → shown ≡ rows_of prefix (live_documents operations (length operations))
-    → Some (rows line upto given) ≡ Some (rows line counted (rows_of prefix (live_documents journal counted)))
+    → Some (rows line upto given) ≡ Some (rows line counted (rows_of prefix
+    (live_documents journal counted)))
 rows-view line upto prefix operations journal counted given shown printed count holds same is =
     let whole : given ≡ rows_of prefix (live_documents journal counted) =
     same ∙ (is ∙ (ap (λ ops. rows_of prefix (live_documents ops (length ops))) holds

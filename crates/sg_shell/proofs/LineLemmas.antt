@@ -82,4 +82,5 @@ lines_of-ended bs k is =
 pub lines_of-unended : (bs : List ℕ) → 0 < length bs → position_from is_line_feed 0 bs ≡ None
     → lines_of bs ≡ bs ∷ lines_of (take (length bs - length bs) (drop (length bs) bs))
 lines_of-unended bs some is =
-    rw (rest_whole bs (length bs), drop-length bs) (ap lines_in (split_unended bs 0 is) ∙ last_line-some bs some)
+    rw (rest_whole bs (length bs), drop-length bs) (ap lines_in (split_unended bs 0 is)
+    ∙ last_line-some bs some)

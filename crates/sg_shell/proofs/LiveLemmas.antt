@@ -107,14 +107,16 @@ by_either id m ops before after low (inr deletes) =
     deletes.some ∙ some_later m deletes.last after deletes.is deletes.not_before
 
 delete_after-low : (b : Bool) (id : List ℕ) (m : ℕ) (x : Operation) (before : Option ℕ)
-    → deletes_id id x ≡ b → unwrap_or before 0 ≤ m → unwrap_or (delete_after id (m + 1) x before) 0 ≤ m + 1
+    → deletes_id id x ≡ b → unwrap_or before 0 ≤ m
+    → unwrap_or (delete_after id (m + 1) x before) 0 ≤ m + 1
 delete_after-low true id m x before is low = rw is (omega arith)
 delete_after-low false id m x before is low = rw is (omega arith)
 
 -- an operation past the n-th deletes the id exactly where the last delete has a number over n
 deleted_later : (id : List ℕ) (m n : ℕ) (ops : List Operation) (before : Option ℕ)
     → unwrap_or before 0 ≤ m
-    → list_any (deletes_id id) (drop n ops) ≡ nat_lt (m + n) (unwrap_or (last_delete id (m + 1) ops before) 0)
+    → list_any (deletes_id id) (drop n ops)
+    ≡ nat_lt (m + n) (unwrap_or (last_delete id (m + 1) ops before) 0)
 deleted_later id m zero ops before low =
     rw add-zero (by_either id m ops before _ low (last_delete-either id (m + 1) ops before))
 deleted_later id m (suc n) [] before low =
@@ -122,7 +124,7 @@ deleted_later id m (suc n) [] before low =
 deleted_later id m (suc n) (x ∷ xs) before low =
     let e : m + suc n ≡ m + 1 + n = omega arith in
     rw e (deleted_later id (m + 1) n xs (delete_after id (m + 1) x before)
-      (delete_after-low (deletes_id id x) id m x before refl low))
+    (delete_after-low (deletes_id id x) id m x before refl low))
 
 -- documents whose id isn't deleted under a greater number are live
 pub undeleted-live : (ops : List Operation) (last : List ℕ → Option ℕ)
@@ -130,8 +132,9 @@ pub undeleted-live : (ops : List Operation) (last : List ℕ → Option ℕ)
     → undeleted last (documents_from 1 ops) ≡ live_documents ops (length ops)
 undeleted-live ops last is =
     rw (take-length ops) (filter_agree _ _ (λ d. ap not (
-      ap (λ (o : Option ℕ). nat_lt d.seq (unwrap_or o 0)) (is d.document.id)
-      ∙ sym (deleted_later d.document.id 0 d.seq ops None (omega arith) ∙ rw zero-add refl))) (documents_from 1 ops))
+    ap (λ (o : Option ℕ). nat_lt d.seq (unwrap_or o 0)) (is d.document.id)
+    ∙ sym (deleted_later d.document.id 0 d.seq ops None (omega arith)
+    ∙ rw zero-add refl))) (documents_from 1 ops))
 
 -- ---- pieces
 
@@ -141,9 +144,10 @@ pub operations_of-drop : (pieces : List PlainPiece) (i : ℕ) (piece : PlainPiec
     → operations_of (drop i pieces) ≡ piece.batch.operations ++ operations_of (drop (i + 1) pieces)
 operations_of-drop pieces i piece h is =
     let split : operations_of (drop i pieces)
-      ≡ (get_or pieces i piece).batch.operations ++ operations_of (drop (i + 1) pieces) =
+    ≡ (get_or pieces i piece).batch.operations ++ operations_of (drop (i + 1) pieces) =
     rw (add-one, drop-cons pieces i piece) refl in
-    split ∙ ap (λ (p : PlainPiece). p.batch.operations ++ operations_of (drop (i + 1) pieces)) (sym is)
+    split ∙ ap (λ (p : PlainPiece). p.batch.operations ++ operations_of (drop (i + 1) pieces))
+    (sym is)
 
 -- how many numbers are left, after one more piece
 pub numbers-piece : (from next total : ℕ) (all now later : List Operation) → all ≡ now ++ later
@@ -168,17 +172,20 @@ pub undeleted-piece : (last : List ℕ → Option ℕ) (from next : ℕ) (all no
     → after ++ undeleted last (documents_from next later) ≡ whole
 undeleted-piece last from next all now later before after whole split is pushed left =
     let joined : undeleted last (documents_from from (now ++ later))
-      ≡ undeleted last (documents_from from now) ++ undeleted last (documents_from (from + length now) later) =
+    ≡ undeleted last (documents_from from now) ++ undeleted last (documents_from
+    (from + length now) later) =
     ap (undeleted last) (documents_from-append from now later)
     ∙ filter-append _ (documents_from from now) (documents_from (from + length now) later) in
     rw (is, pushed) (append_assoc before _ _
     ∙ (ap (λ (ds : List NumberedDocument). before ++ ds) (sym joined)
-    ∙ (ap (λ (ops : List Operation). before ++ undeleted last (documents_from from ops)) (sym split) ∙ left)))
+    ∙ (ap (λ (ops : List Operation). before ++ undeleted last (documents_from from ops))
+    (sym split) ∙ left)))
 
 -- what was kept, where no piece is left
 pub undeleted-end : (last : List ℕ → Option ℕ) (from i : ℕ) (pieces : List PlainPiece)
     (kept whole : List NumberedDocument) → length pieces ≤ i
-    → kept ++ undeleted last (documents_from from (operations_of (drop i pieces))) ≡ whole → kept ≡ whole
+    → kept ++ undeleted last (documents_from from (operations_of (drop i pieces))) ≡ whole
+    → kept ≡ whole
 undeleted-end last from i pieces kept whole h left =
     let none : drop i pieces ≡ [] = drop_all i pieces h in
     sym (append-nil kept) ∙ (rw none at left)

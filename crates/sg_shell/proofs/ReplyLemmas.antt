@@ -33,7 +33,8 @@ output-more so_far whole n r after bytes line rest reply split replied then befo
     let this : Line = record { number = n; command = command_of standard line } in
     let later = transcript_to_come next.after (n + 1) rest in
     let opened : so_far ++ output (said this next.reply ++ later) ≡ whole =
-    ap (λ lines. so_far ++ output (transcript_from r (lines_to_come n lines))) (sym split) ∙ before in
+    ap (λ lines. so_far ++ output (transcript_from r (lines_to_come n lines))) (sym split)
+    ∙ before in
     let joined : output (said this next.reply ++ later) ≡ printed next.reply ++ output later =
     flat_map-append (λ (e : Said). reply_text e.reply) (said this next.reply) later
     ∙ ap (λ (text : List ℕ). text ++ output later) (output-said this next.reply) in

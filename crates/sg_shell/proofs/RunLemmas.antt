@@ -36,19 +36,25 @@ pub record Gains (now : List Operation) (old new : Record) : Type 0 where
   pub counted : accepted new.history ≡ accepted old.history + length now
 
 accepted-event : (history : List HistoryEvent) (event : HistoryEvent)
-    → accepted (history ++ event ∷ []) ≡ accepted history + length (filter_map accepted_number (event ∷ []))
+    → accepted (history ++ event ∷ []) ≡ accepted history + length (filter_map accepted_number
+    (event ∷ []))
 accepted-event history event =
     ap length (filter_map-append accepted_number history (event ∷ []))
     ∙ length-append (filter_map accepted_number history) (filter_map accepted_number (event ∷ []))
 
 gains-none : (r : Record) → Gains [] r r
-gains-none r = record { journal = sym (append-nil r.journal); counted = sym (add-zero (accepted r.history)) }
+gains-none r = record {
+  journal = sym (append-nil r.journal);
+  counted =
+      sym (add-zero (accepted r.history));
+}
 
 gains-event : (r : Record) (event : HistoryEvent) → filter_map accepted_number (event ∷ []) ≡ []
     → Gains [] r (with_event r event)
 gains-event r event none = record {
   journal = sym (append-nil r.journal);
-  counted = accepted-event r.history event ∙ ap (λ (ns : List ℕ). accepted r.history + length ns) none;
+  counted = accepted-event r.history event
+      ∙ ap (λ (ns : List ℕ). accepted r.history + length ns) none;
 }
 
 gains-then : (now : List Operation) (old mid new : Record) → Gains now old mid → Gains [] mid new
@@ -72,9 +78,13 @@ gains-accept : (r : Record) (operation : Operation)
 gains-accept r operation =
     let added = with_operation caller operation r in
     let one : Gains (operation ∷ []) r added =
-    record { journal = refl; counted = accepted-event r.history (accept caller (accepted r.history + 1)) } in
+    record {
+      journal = refl;
+      counted =
+          accepted-event r.history (accept caller (accepted r.history + 1));
+    } in
     gains-if (nat_eq (buffered added.history) MOST_BUFFERED) (operation ∷ []) r _ added
-      (gains-then (operation ∷ []) r added _ one (gains-freeze added)) one
+    (gains-then (operation ∷ []) r added _ one (gains-freeze added)) one
 
 pub gains-begin : (r : Record) → Gains [] r (after_begin caller r)
 gains-begin r =
@@ -83,9 +93,11 @@ gains-begin r =
 
 gains-view : (r : Record) → Gains [] r (after_view r)
 gains-view r =
-    gains-then [] r (after_begin caller r) _ (gains-begin r) (gains-event (after_begin caller r) _ refl)
+    gains-then [] r (after_begin caller r) _ (gains-begin r) (gains-event
+    (after_begin caller r) _ refl)
 
-gains-counted : (now : List Operation) (old new : Record) → IsCounted old → Gains now old new → IsCounted new
+gains-counted : (now : List Operation) (old new : Record) → IsCounted old → Gains now old new
+    → IsCounted new
 gains-counted now old new counted gains =
     omega (arith, gains.counted, counted, ap length gains.journal, length-append old.journal now)
 
@@ -94,7 +106,8 @@ gains-counted now old new counted gains =
 -- the operations that a line accepts over a record
 abbrev pub accepted_now : Command → Record → List Operation
 accepted_now blank r = []
-accepted_now (accepts operation) r = cond (nat_le MOST_OPERATIONS (accepted r.history)) [] (operation ∷ [])
+accepted_now (accepts operation) r =
+    cond (nat_le MOST_OPERATIONS (accepted r.history)) [] (operation ∷ [])
 accepted_now (suggests prefix) r = []
 accepted_now (refused kind) r = []
 
@@ -124,7 +137,8 @@ told n c r t = said (record { number = n; command = c }) (step n c r).reply ++ t
 follows-accept_if : (full : Bool) (n : ℕ) (operation : Operation) (r : Record) (t : List Said)
     (more : List Operation) → nat_le MOST_OPERATIONS (accepted r.history) ≡ full → IsCounted r
     → Follows (r.journal ++ accepted_now (accepts operation) r) t more
-    → Follows r.journal (told n (accepts operation) r t) (accepted_now (accepts operation) r ++ more)
+    → Follows r.journal (told n (accepts operation) r t) (accepted_now
+    (accepts operation) r ++ more)
 follows-accept_if true n operation r t more is counted later =
     let full : MOST_OPERATIONS ≤ length r.journal = grind (arith, nat_tests, counted, is) in
     let later' = rw is at later in
@@ -132,14 +146,17 @@ follows-accept_if true n operation r t more is counted later =
 follows-accept_if false n operation r t more is counted later =
     let room : length r.journal < MOST_OPERATIONS = grind (arith, nat_tests, counted, is) in
     let later' = rw is at later in
-    rw (is, counted) (follows-cons r.journal (operation ∷ []) more _ t (next-numbered r.journal n operation room) later')
+    rw (is, counted) (follows-cons r.journal (operation ∷ []) more _ t
+    (next-numbered r.journal n operation room) later')
 
-follows-step : (n : ℕ) (c : Command) (r : Record) (t : List Said) (more : List Operation) → IsCounted r
+follows-step : (n : ℕ) (c : Command) (r : Record) (t : List Said) (more : List Operation)
+    → IsCounted r
     → Follows (r.journal ++ accepted_now c r) t more
     → Follows r.journal (told n c r t) (accepted_now c r ++ more)
 follows-step n blank r t more counted later = rw append-nil at later
 follows-step n (accepts operation) r t more counted later =
-    follows-accept_if (nat_le MOST_OPERATIONS (accepted r.history)) n operation r t more refl counted later
+    follows-accept_if (nat_le MOST_OPERATIONS
+    (accepted r.history)) n operation r t more refl counted later
 follows-step n (suggests prefix) r t more counted later =
     rw counted (follows-cons r.journal [] more _ t (next-rows r.journal n prefix) later)
 follows-step n (refused kind) r t more counted later =
@@ -150,17 +167,18 @@ within-step : (n : ℕ) (c : Command) (r : Record) → IsCounted r → length r.
 within-step n blank r counted most = omega (arith, length-append r.journal [], most)
 within-step n (accepts operation) r counted most =
     by_room (nat_le MOST_OPERATIONS (accepted r.history)) refl where
-  by_room : (full : Bool) → nat_le MOST_OPERATIONS (accepted r.history) ≡ full
-      → length (r.journal ++ cond full [] (operation ∷ [])) ≤ MOST_OPERATIONS
-  by_room true is = omega (arith, length-append r.journal [], most)
-  by_room false is =
-      let room : length r.journal < MOST_OPERATIONS = grind (arith, nat_tests, counted, is) in
-      omega (arith, length-append r.journal (operation ∷ []), room)
+      by_room : (full : Bool) → nat_le MOST_OPERATIONS (accepted r.history) ≡ full
+          → length (r.journal ++ cond full [] (operation ∷ [])) ≤ MOST_OPERATIONS
+      by_room true is = omega (arith, length-append r.journal [], most)
+      by_room false is =
+          let room : length r.journal < MOST_OPERATIONS = grind (arith, nat_tests, counted, is) in
+          omega (arith, length-append r.journal (operation ∷ []), room)
 within-step n (suggests prefix) r counted most = omega (arith, length-append r.journal [], most)
 within-step n (refused kind) r counted most = omega (arith, length-append r.journal [], most)
 
 -- lines in order
-pub follows-lines : (r : Record) (lines : List Line) → IsCounted r → length r.journal ≤ MOST_OPERATIONS
+pub follows-lines : (r : Record) (lines : List Line) → IsCounted r
+    → length r.journal ≤ MOST_OPERATIONS
     → Follows r.journal (transcript_from r lines) (accepted_from r lines)
 follows-lines r [] counted most = follows-nil r.journal most
 follows-lines r (line ∷ lines) counted most =
@@ -168,10 +186,13 @@ follows-lines r (line ∷ lines) counted most =
     let c = line.command in
     let next = (step n c r).after in
     let gains = gains-step n c r in
-    let most' : length next.journal ≤ MOST_OPERATIONS = rw gains.journal (within-step n c r counted most) in
+    let most' : length next.journal ≤ MOST_OPERATIONS =
+    rw gains.journal (within-step n c r counted most) in
     let later = follows-lines next lines (gains-counted _ r next counted gains) most' in
-    let P : List Operation → Type 0 = λ j. Follows j (transcript_from next lines) (accepted_from next lines) in
-    follows-step n c r (transcript_from next lines) (accepted_from next lines) counted (subst P gains.journal later)
+    let P : List Operation → Type 0 =
+    λ j. Follows j (transcript_from next lines) (accepted_from next lines) in
+    follows-step n c r (transcript_from next lines) (accepted_from next lines) counted
+    (subst P gains.journal later)
 
 -- ---- replies
 
@@ -199,7 +220,8 @@ answers-lines : (r : Record) (lines : List Line)
     → All (λ e. MayReply e.line.command e.line.number e.reply) (transcript_from r lines)
 answers-lines r [] = λ k d h. absurd (omega arith)
 answers-lines r (line ∷ lines) =
-    answers-step line.number line.command r _ (answers-lines (step line.number line.command r).after lines)
+    answers-step line.number line.command r _ (answers-lines
+    (step line.number line.command r).after lines)
 
 lines-accept_if : (full : Bool) (n : ℕ) (operation : Operation) (r : Record) (t : List Said)
     → nat_le MOST_OPERATIONS (accepted r.history) ≡ full
@@ -226,7 +248,8 @@ lines-transcript : (r : Record) (lines : List Line)
     → map (λ e. e.line) (transcript_from r lines) ≡ filter (λ l. wants_reply l.command) lines
 lines-transcript r [] = refl
 lines-transcript r (line ∷ lines) =
-    lines-step line.number line.command r _ lines (lines-transcript (step line.number line.command r).after lines)
+    lines-step line.number line.command r _ lines (lines-transcript
+    (step line.number line.command r).after lines)
 
 -- ---- the session
 
@@ -248,7 +271,8 @@ output_of-session input =
         most = rw whole at follows.most;
         full = λ k d h is. sym whole ∙ follows.full k d h is;
         ordered = follows.ordered;
-        at_most = λ k d h. at_most _ (0 + length journal) (length journal) (omega arith) (follows.at_most k d h);
+        at_most = λ k d h. at_most _ (0 + length journal) (length journal) (omega arith)
+            (follows.at_most k d h);
         answered = follows.answered;
       };
     }

@@ -92,7 +92,7 @@ live_documents-append journal more =
     let same : take (length journal) (journal ++ more) ≡ take (length journal) journal =
     take-append_seam journal more ∙ sym (take-length journal) in
     ap (λ first. filter (λ d. not (list_any (deletes_id d.document.id) (drop d.seq first)))
-      (documents_from 1 first)) same
+    (documents_from 1 first)) same
 
 -- ---- transcripts
 
@@ -112,9 +112,10 @@ pub record IsNext (journal : List Operation) (e : Said) (now : List Operation) :
   pub within : IsWithin (length journal + length now) e
   pub numbers : filter_map numbered_operation (e ∷ []) ≡ enumerate_from (length journal + 1) now
   pub answered : (more : List Operation)
-    → IsAnswered (journal ++ (now ++ more)) e.line.command e.reply
+      → IsAnswered (journal ++ (now ++ more)) e.line.command e.reply
 
-pub follows-nil : (journal : List Operation) → length journal ≤ MOST_OPERATIONS → Follows journal [] []
+pub follows-nil : (journal : List Operation) → length journal ≤ MOST_OPERATIONS
+    → Follows journal [] []
 follows-nil journal most = record {
   after = λ k d h. absurd (omega arith);
   ordered = λ i j d h k. absurd (omega arith);
@@ -131,27 +132,34 @@ follows-cons journal now more e t next later =
     let count : length (journal ++ now) ≡ length journal + length now = length-append journal now in
     let total : length (now ++ more) ≡ length now + length more = length-append now more in
     let within : IsWithin (length (journal ++ now)) e = rw count next.within in
-    let whole : (journal ++ now) ++ more ≡ journal ++ (now ++ more) = append_assoc journal now more in
+    let whole : (journal ++ now) ++ more ≡ journal ++ (now ++ more) =
+    append_assoc journal now more in
     record {
       after = All-cons (IsAfter (length journal)) e t next.after
-        (λ k d h. after_fewer (length journal) (length (journal ++ now)) _ (omega (arith, count)) (later.after k d h));
+          (λ k d h. after_fewer (length journal) (length (journal ++ now)) _ (omega (arith, count))
+          (later.after k d h));
       ordered = AllPairs-cons StandsBefore e t
-        (λ k d h. precedes (length (journal ++ now)) e _ within (later.after k d h)) later.ordered;
+          (λ k d h. precedes (length (journal ++ now)) e _ within (later.after k d h)) later.ordered;
       numbers =
-        filter_map-append numbered_operation (e ∷ []) t
-        ∙ (ap (λ ps. ps ++ filter_map numbered_operation t) next.numbers
-        ∙ (ap (λ ps. enumerate_from (length journal + 1) now ++ ps) (later.numbers ∙ ap (λ n. enumerate_from n more) (omega (arith, count)))
-        ∙ sym (enumerate_from-append (length journal + 1) now more)));
+          filter_map-append numbered_operation (e ∷ []) t
+          ∙ (ap (λ ps. ps ++ filter_map numbered_operation t) next.numbers
+          ∙ (ap (λ ps. enumerate_from (length journal + 1) now ++ ps) (later.numbers
+          ∙ ap (λ n. enumerate_from n more) (omega (arith, count)))
+          ∙ sym (enumerate_from-append (length journal + 1) now more)));
       most = let m = later.most in omega (arith, m, count, total);
       full = All-cons (λ e. IsFull e → length journal + length (now ++ more) ≡ MOST_OPERATIONS) e t
-        (λ is. let reached = next.within.full is in let m = later.most in omega (arith, reached, m, count, total))
-        (λ k d h is. let reached = later.full k d h is in omega (arith, reached, count, total));
-      at_most = All-cons (λ e. IfSome (upto_printed e.reply) (λ u. u ≤ length journal + length (now ++ more))) e t
-        (at_most (upto_printed e.reply) (length journal + length now) _ (omega (arith, total)) next.within.upto)
-        (λ k d h. at_most _ (length (journal ++ now) + length more) _ (omega (arith, count, total)) (later.at_most k d h));
+          (λ is. let reached = next.within.full is in let m =
+          later.most in omega (arith, reached, m, count, total))
+          (λ k d h is. let reached = later.full k d h is in omega (arith, reached, count, total));
+      at_most = All-cons (λ e. IfSome (upto_printed e.reply) (λ u. u ≤ length journal + length
+          (now ++ more))) e t
+          (at_most (upto_printed e.reply) (length journal + length now) _ (omega
+          (arith, total)) next.within.upto)
+          (λ k d h. at_most _ (length (journal ++ now) + length more) _ (omega
+          (arith, count, total)) (later.at_most k d h));
       answered = All-cons (λ e. IsAnswered (journal ++ (now ++ more)) e.line.command e.reply) e t
-        (next.answered more)
-        (λ k d h. rw (← whole) (later.answered k d h));
+          (next.answered more)
+          (λ k d h. rw (← whole) (later.answered k d h));
     }
 
 -- ---- lines
@@ -160,8 +168,12 @@ follows-cons journal now more e t next later =
 pub next-numbered : (journal : List Operation) (line : ℕ) (operation : Operation)
     → length journal < MOST_OPERATIONS
     → IsNext journal
-      (record { line = record { number = line; command = accepts operation }; reply = numbered line (length journal + 1) })
-      (operation ∷ [])
+    (record {
+      line = record { number = line; command = accepts operation };
+      reply =
+          numbered line (length journal + 1);
+    })
+    (operation ∷ [])
 next-numbered journal line operation room = record {
   after = record { number = omega arith; upto = tt; none_when_full = λ full. absurd (omega arith) };
   within = record { number = omega arith; upto = tt; full = λ is. cc };
@@ -173,8 +185,12 @@ next-numbered journal line operation room = record {
 pub next-full : (journal : List Operation) (line : ℕ) (operation : Operation)
     → MOST_OPERATIONS ≤ length journal
     → IsNext journal
-      (record { line = record { number = line; command = accepts operation }; reply = failed line Full })
-      []
+    (record {
+      line = record { number = line; command = accepts operation };
+      reply =
+          failed line Full;
+    })
+    []
 next-full journal line operation full = record {
   after = record { number = tt; upto = tt; none_when_full = λ _. refl };
   within = record { number = tt; upto = tt; full = λ is. omega arith };
@@ -185,11 +201,12 @@ next-full journal line operation full = record {
 -- an answer over all operations so far
 pub next-rows : (journal : List Operation) (line : ℕ) (prefix : List ℕ)
     → IsNext journal
-      (record {
-        line = record { number = line; command = suggests prefix };
-        reply = rows line (length journal) (rows_of prefix (live_documents journal (length journal)));
-      })
-      []
+    (record {
+      line = record { number = line; command = suggests prefix };
+      reply = rows line (length journal) (rows_of prefix (live_documents journal
+          (length journal)));
+    })
+    []
 next-rows journal line prefix = record {
   after = record { number = tt; upto = omega arith; none_when_full = λ _. refl };
   within = record { number = tt; upto = omega arith; full = λ is. absurd is };
@@ -200,8 +217,8 @@ next-rows journal line prefix = record {
 -- an error of the line itself
 pub next-refused : (journal : List Operation) (line : ℕ) (kind : ErrorKind)
     → IsNext journal
-      (record { line = record { number = line; command = refused kind }; reply = failed line kind })
-      []
+    (record { line = record { number = line; command = refused kind }; reply = failed line kind })
+    []
 next-refused journal line kind = record {
   after = record { number = tt; upto = tt; none_when_full = λ _. refl };
   within = record { number = tt; upto = tt; full = λ is. absurd is };

@@ -46,7 +46,13 @@ text_at place ss = option_map_or (λ s. s.text) (slice_get ss place) []
 abbrev pub row_by : Rank → Option NumberedDocument → Row
 row_by r None = record { id = []; score = r.score; seq = r.seq; text = [] }
 row_by r (Some d) =
-    record { id = d.document.id; score = r.score; seq = r.seq; text = text_at r.place d.document.suggestions }
+    record {
+      id = d.document.id;
+      score = r.score;
+      seq = r.seq;
+      text =
+          text_at r.place d.document.suggestions;
+    }
 
 -- a row as it is printed, by the document that has its number
 abbrev pub row_of : List NumberedDocument → Rank → Row

@@ -39,14 +39,16 @@ pub record WritesAll {K : Type 0} (k : SinkMembers K) (output : List ℕ) (old n
   pub no_fault : k.faults new ≡ k.faults old
 
 -- a put failed after a front of an output, which isn't all of it
-pub record FailsWriting {K : Type 0} (k : SinkMembers K) (output : List ℕ) (old new : K) : Type 0 where
+pub record FailsWriting {K : Type 0} (k : SinkMembers K) (output : List ℕ)
+    (old new : K) : Type 0 where
   pub written : ℕ
   pub within : written < length output
   pub given : k.given new ≡ behind (take written output) (k.given old)
   pub rose : Rose (k.faults old) (k.faults new)
 
 -- memory ran out after a front of an output
-pub record StopsWriting {K : Type 0} (k : SinkMembers K) (output : List ℕ) (old new : K) : Type 0 where
+pub record StopsWriting {K : Type 0} (k : SinkMembers K) (output : List ℕ)
+    (old new : K) : Type 0 where
   pub written : ℕ
   pub given : k.given new ≡ behind (take written output) (k.given old)
   pub no_fault : k.faults new ≡ k.faults old
@@ -61,7 +63,7 @@ WriteEnds k output ReadFault old new = ⊥
 WriteEnds k output TooLong old new = ⊥
 
 module _ {S K : Type 0} (s : SourceMembers S) (k : SinkMembers K) where
-  -- the input was read to its end, and the writing of the output to it, which is a session, ended so
+  -- the input was read to its end, and the writing of its output, which is a session, ended so
   pub record AnswersInput (status : Status) (source source' : S) (sink sink' : K) : Type 0 where
     pub input : List ℕ
     pub output : List ℕ
@@ -88,8 +90,8 @@ module _ {S K : Type 0} (s : SourceMembers S) (k : SinkMembers K) where
     pub reading : Rose (s.faults source) (s.faults source') → ⊥
     pub writing : Rose (k.faults sink) (k.faults sink') → ⊥
 
--- where nothing fails, an input within the limit ends the run as done, and a longer one as too long;
--- either may run out of memory
+-- where nothing fails, an input within the limit ends the run as done, and a longer one as too
+-- long; either may run out of memory
 pub record EndsByLength (status : Status) (left : Option (List ℕ)) : Type 0 where
   pub within : IsSomeAnd left (λ input. length input ≤ MOST_INPUT_BYTES)
       → (status ≡ Done) ⊎ (status ≡ Memory)

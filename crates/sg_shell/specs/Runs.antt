@@ -27,11 +27,11 @@ pub record Step : Type 0 where
 abbrev pub accept_step : ℕ → Operation → Record → Step
 accept_step line operation r =
     if nat_le MOST_OPERATIONS (accepted r.history)
-      then record { reply = Some (failed line Full); after = r }
-      else record {
-        reply = Some (numbered line (accepted r.history + 1));
-        after = after_accept caller operation r;
-      }
+    then record { reply = Some (failed line Full); after = r }
+    else record {
+      reply = Some (numbered line (accepted r.history + 1));
+      after = after_accept caller operation r;
+    }
 
 -- the record after a view of all operations was begun and ended
 abbrev pub after_view : Record → Record

@@ -81,7 +81,8 @@ pub record StandsBefore (e f : Said) : Type 0 where
   -- and over no less than rows before
   pub never_back : IfSome (upto_printed e.reply) (λ v. IfSome (upto_printed f.reply) (λ u. v ≤ u))
   -- and over nothing that is numbered later
-  pub foresees_none : IfSome (upto_printed e.reply) (λ u. IfSome (number_printed f.reply) (λ n. u < n))
+  pub foresees_none : IfSome (upto_printed e.reply) (λ u. IfSome (number_printed f.reply)
+      (λ n. u < n))
   -- nothing is numbered once the index is full
   pub full_last : IsFull e → number_printed f.reply ≡ None
 

@@ -8,8 +8,8 @@ ghost use Rattle.sg_paths.specs.declared.limits.TheConstants.{MOST_SUGGESTIONS};
 ghost use Rattle.sg_shell.specs.Answers.{matching_rank, matching_ranks, document_row, answer};
 ghost use Rattle.sg_shell.specs.Answers.{text_at, row_of, rows_of};
 
-use sg_base::{Key, Rank, Text, sort_by_rank};
 use crate::live::LiveDocument;
+use sg_base::{Key, Rank, Text, sort_by_rank};
 use sg_paths::Suggestion;
 use std::alloc::{AllocError, Global};
 use wire_json::OutRow;
@@ -152,8 +152,8 @@ fn printed_row(
     }
 }
 
-/// The rows that a query prints. Looks at each document once, and again at some of them for each row
-/// that is printed; sorts the rows that match.
+/// The rows that a query prints. Looks at each document once, and again at some of them for each
+/// row that is printed; sorts the rows that match.
 pub fn rows_for(
     alloc: Global,
     prefix: &Key,

@@ -45,7 +45,8 @@ fn accept(core: &mut Core, line: u64, op: Op) -> Result<Reply, AllocError>
 fn rows_in(alloc: Global, parts: &ViewParts, prefix: &Key) -> Result<Vec<OutRow>, AllocError>
     requires { length (operations_of parts.now.pieces) < 2 ^ 63 }
     ensures { IfOk result (λ rows. rows.items ≡ rows_of prefix.now
-        (live_documents (operations_of parts.now.pieces) (length (operations_of parts.now.pieces)))) }
+        (live_documents (operations_of parts.now.pieces)
+        (length (operations_of parts.now.pieces)))) }
 {
     let live = live_documents(alloc, parts.pieces.items())?;
     rows_for(alloc, prefix, live.as_slice())
@@ -104,7 +105,8 @@ pub fn answer(
     requires { open_views core.old.history ≡ [] }
     ensures reply { IfOk result (λ r. option_map plain_reply r
         ≡ (step line (command_of standard bytes.now) core.old).reply) }
-    ensures after { OnOk result (core.new ≡ (step line (command_of standard bytes.now) core.old).after) }
+    ensures after { OnOk result (core.new
+        ≡ (step line (command_of standard bytes.now) core.old).after) }
     ensures closed { open_views core.new.history ≡ [] }
 {
     match command(alloc, bytes, &Analyzer { separators: true }) {

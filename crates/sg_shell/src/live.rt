@@ -162,8 +162,9 @@ fn push_piece_live<'p>(
     Ok(from + ops.len() as u64)
 }
 
-/// The documents of the pieces that no later operation of theirs deletes, by number, where the first
-/// operation has the number 1. Two passes over all operations, and a map of the ids that are deleted.
+/// The documents of the pieces that no later operation of theirs deletes, by number, where the
+/// first operation has the number 1. Two passes over all operations, and a map of the ids that are
+/// deleted.
 pub fn live_documents<'p>(
     alloc: Global,
     pieces: &'p [Piece],

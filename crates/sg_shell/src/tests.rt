@@ -8,15 +8,17 @@ use std::process::Abort;
 use std::test::Fail;
 
 mod answered;
+mod changed;
 mod limits;
 mod refused;
 
 use answered::{ADDED, ADDED_UNSEEN, ITS_REPLIES, ONE_ADD_AND_ONE_QUERY, SESSIONS};
+use changed::CHANGES;
 use limits::AT_LIMITS;
 use refused::{ENTRIES_WITHOUT_FORM, NOT_JSON, NOT_JSON_BY_A_BYTE, WITHOUT_FORM, WITHOUT_KEY};
 
-// Arguments, the takes and the puts that fail, and how the add and the query then end: with how much
-// of the 97 bytes of input left.
+// Arguments, the takes and the puts that fail, and how the add and the query then end: with how
+// much of the 97 bytes of input left.
 const ENDS: [(&str, &[&str], &[u64], &[u64], Status, &str, usize); 17] = [
     (
         "all goes well",
@@ -192,6 +194,10 @@ fn compare_row(
 fn lines_are_answered_in_order(rt: HostRuntime) -> Result<(), Fail> {
     let alloc = rt.alloc();
     for (name, input, output) in SESSIONS {
+        let output = output.replace(alloc, "\n ", "")?;
+        compare(&rt, alloc, name, input.as_bytes(), output.as_str())?;
+    }
+    for (name, input, output) in CHANGES {
         let output = output.replace(alloc, "\n ", "")?;
         compare(&rt, alloc, name, input.as_bytes(), output.as_str())?;
     }

@@ -17,7 +17,8 @@ only_item-none [] len = refl
 only_item-none (v ∷ []) len = absurd (len refl)
 only_item-none (v ∷ (w ∷ vs)) len = refl
 
-pub value_of-read : (line : List ℕ) (d : Data) → IsUtf8 line → read line ≡ Some d → value_of line ≡ Some d
+pub value_of-read : (line : List ℕ) (d : Data) → IsUtf8 line → read line ≡ Some d
+    → value_of line ≡ Some d
 value_of-read line d text is = rw (is_utf8-from_IsUtf8 line text) is
 
 unread_by : (b : Bool) (line : List ℕ) → is_utf8 line ≡ b → (IsUtf8 line → read line ≡ None)
@@ -29,6 +30,7 @@ pub value_of-unread : (line : List ℕ) → (IsUtf8 line → read line ≡ None)
 value_of-unread line none = unread_by (is_utf8 line) line refl none
 
 -- a line that isn't blank goes by its value
-pub command_of-filled : (analyzer : Analyzer) (line : List ℕ) (d : Option Data) → is_blank line ≡ false
+pub command_of-filled : (analyzer : Analyzer) (line : List ℕ) (d : Option Data)
+    → is_blank line ≡ false
     → value_of line ≡ d → command_of_value analyzer d ≡ command_of analyzer line
 command_of-filled analyzer line d filled is = rw (filled, is) refl

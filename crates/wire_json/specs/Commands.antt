@@ -79,4 +79,5 @@ abbrev pub value_of : List ℕ → Option Data
 value_of line = if is_utf8 line then read line else None
 
 abbrev pub command_of : Analyzer → List ℕ → Command
-command_of analyzer line = if is_blank line then blank else command_of_value analyzer (value_of line)
+command_of analyzer line =
+    if is_blank line then blank else command_of_value analyzer (value_of line)

@@ -35,7 +35,8 @@ row_data r =
     member (codes "text") (string r.text) no_members))))
 
 abbrev pub numbered_data : ℕ → ℕ → Data
-numbered_data line seq = object (member (codes "line") (whole line) (member (codes "seq") (whole seq) no_members))
+numbered_data line seq =
+    object (member (codes "line") (whole line) (member (codes "seq") (whole seq) no_members))
 
 abbrev pub rows_data : ℕ → ℕ → List Row → Data
 rows_data line upto rs =
@@ -46,7 +47,8 @@ rows_data line upto rs =
     member (codes "upto") (whole upto) no_members))))
 
 abbrev pub failed_data : ℕ → List ℕ → Data
-failed_data line name = object (member (codes "error") (string name) (member (codes "line") (whole line) no_members))
+failed_data line name =
+    object (member (codes "error") (string name) (member (codes "line") (whole line) no_members))
 
 -- the JSON value of a reply, members in ascending order of name
 abbrev pub reply_data : Reply → Data

@@ -1,5 +1,5 @@
-//! From a line of input to its command, and from a reply to its line of output. Contracts see a line
-//! as bytes, a command and a reply as plain data, and JSON by `serde_json`'s definitions.
+//! From a line of input to its command, and from a reply to its line of output. Contracts see a
+//! line as bytes, a command and a reply as plain data, and JSON by `serde_json`'s definitions.
 #![tactic(auto)]
 
 mod commands;

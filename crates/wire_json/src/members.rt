@@ -31,13 +31,7 @@ pub fn whole(value: &Value, most: u64) -> Option<u64>
     ensures most { IfSome result (λ n. n ≤ most) }
 {
     match value.as_u64() {
-        Some(number) => {
-            if number <= most {
-                Some(number)
-            } else {
-                None
-            }
-        }
+        Some(number) => { if number <= most { Some(number) } else { None } }
         None => None,
     }
 }

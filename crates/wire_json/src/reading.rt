@@ -26,9 +26,7 @@ fn line_error(error: KeyError) -> LineError
 {
     match error {
         KeyError::Memory => LineError::Memory,
-        KeyError::Reserved { .. } | KeyError::Empty | KeyError::TooLong { .. } => {
-            LineError::Key
-        }
+        KeyError::Reserved { .. } | KeyError::Empty | KeyError::TooLong { .. } => { LineError::Key }
     }
 }
 
@@ -152,8 +150,8 @@ fn is_a_blank(line: &[u8]) -> bool
     line.len() <= MOST_BLANK_BYTES && has_blanks_alone(line)
 }
 
-/// What a line asks for, without its line feed. Parses the line once; the cost is that of reading the
-/// JSON and of analysing one text of at most 1,024 bytes.
+/// What a line asks for, without its line feed. Parses the line once; the cost is that of reading
+/// the JSON and of analysing one text of at most 1,024 bytes.
 pub fn command(alloc: Global, line: &[u8], analyzer: &Analyzer) -> Result<Command, LineError>
     ensures ok { IfOk result (λ c. command_of analyzer.now line.now ≡ plain_command c) }
     ensures refused { IfErr result (Refuses (command_of analyzer.now line.now)) }

@@ -5,6 +5,8 @@ use Rattle.sg_shell.proofs.live.last_deletes.Given as goal
 
 abbrev pub invariant-loop-piece : goal.invariant-loop-piece
 invariant-loop-piece l =
-    (l.from + length (operations_of (drop l.piece-index l.pieces)) ≡ 1 + length (operations_of l.pieces))
-    × ((id : List ℕ) → last_delete id l.from (operations_of (drop l.piece-index l.pieces)) (last_of l.last id)
-      ≡ last_delete id 1 (operations_of l.pieces) None)
+    (l.from + length (operations_of (drop l.piece-index l.pieces))
+    ≡ 1 + length (operations_of l.pieces))
+    × ((id : List ℕ) → last_delete id l.from (operations_of (drop l.piece-index l.pieces))
+    (last_of l.last id)
+    ≡ last_delete id 1 (operations_of l.pieces) None)

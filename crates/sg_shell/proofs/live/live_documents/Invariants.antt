@@ -6,6 +6,8 @@ use Rattle.sg_shell.proofs.live.live_documents.Given as goal
 
 abbrev pub invariant-loop-piece : goal.invariant-loop-piece
 invariant-loop-piece l =
-    (l.from + length (operations_of (drop l.piece-index l.pieces)) ≡ 1 + length (operations_of l.pieces))
-    × (l.live.items ++ undeleted (last_of l.last) (documents_from l.from (operations_of (drop l.piece-index l.pieces)))
-      ≡ undeleted (last_of l.last) (documents_from 1 (operations_of l.pieces)))
+    (l.from + length (operations_of (drop l.piece-index l.pieces))
+    ≡ 1 + length (operations_of l.pieces))
+    × (l.live.items ++ undeleted (last_of l.last) (documents_from l.from (operations_of
+    (drop l.piece-index l.pieces)))
+    ≡ undeleted (last_of l.last) (documents_from 1 (operations_of l.pieces)))

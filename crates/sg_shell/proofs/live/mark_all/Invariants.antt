@@ -6,5 +6,6 @@ use Rattle.sg_shell.proofs.live.mark_all.Given as goal
 abbrev pub invariant-loop-op : goal.invariant-loop-op
 invariant-loop-op l =
     (l.seq ≡ l.from + l.op-index)
-    × ((id : List ℕ) → last_delete id l.seq (map operation_of (drop l.op-index l.ops)) (last_of l.last id)
-      ≡ last_delete id l.from (map operation_of l.ops) (last_of l.initial.last id))
+    × ((id : List ℕ) → last_delete id l.seq (map operation_of (drop l.op-index l.ops))
+    (last_of l.last id)
+    ≡ last_delete id l.from (map operation_of l.ops) (last_of l.initial.last id))

@@ -6,5 +6,7 @@ use Rattle.sg_shell.proofs.live.push_all_live.Given as goal
 abbrev pub invariant-loop-op : goal.invariant-loop-op
 invariant-loop-op l =
     (l.seq ≡ l.from + l.op-index)
-    × (l.live.items ++ undeleted (last_of l.last) (documents_from l.seq (map operation_of (drop l.op-index l.ops)))
-      ≡ l.initial.live.items ++ undeleted (last_of l.last) (documents_from l.from (map operation_of l.ops)))
+    × (l.live.items ++ undeleted (last_of l.last) (documents_from l.seq (map operation_of
+    (drop l.op-index l.ops)))
+    ≡ l.initial.live.items ++ undeleted (last_of l.last) (documents_from l.from
+    (map operation_of l.ops)))

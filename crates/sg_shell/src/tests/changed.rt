@@ -1,0 +1,99 @@
+// Inputs with updates and deletes, and their outputs, written as in `answered`.
+
+pub const CHANGES: [(&str, &str, &str); 6] = [
+    (
+        "an update replaces its document",
+        r#"{"op":"add","id":"x","suggest":[{"input":"Alpha"}]}
+{"op":"update","id":"x","suggest":[{"input":"Alpine"}]}
+{"op":"suggest","prefix":"al"}
+"#,
+        r#"{"line":1,"seq":1}
+{"line":2,"seq":2}
+{"complete":true,"line":3,"rows":[{"id":"x","score":1,"seq":2,"text":"Alpine"}],"upto":2}
+"#,
+    ),
+    (
+        "a delete of nothing takes a number",
+        r#"{"op":"delete","id":"no"}
+{"op":"suggest","prefix":""}
+"#,
+        r#"{"line":1,"seq":1}
+{"complete":true,"line":2,"rows":[],"upto":1}
+"#,
+    ),
+    (
+        "a delete reaches the documents that were added before it, and no later ones",
+        r#"{"op":"add","id":"a","suggest":[{"input":"Ab"}]}
+{"op":"suggest","prefix":"a"}
+{"op":"delete","id":"a"}
+{"op":"suggest","prefix":"a"}
+{"op":"add","id":"a","suggest":[{"input":"Ac"}]}
+{"op":"suggest","prefix":"a"}
+"#,
+        r#"{"line":1,"seq":1}
+{"complete":true,"line":2,"rows":[{"id":"a","score":1,"seq":1,"text":"Ab"}],"upto":1}
+{"line":3,"seq":2}
+{"complete":true,"line":4,"rows":[],"upto":2}
+{"line":5,"seq":3}
+{"complete":true,"line":6,"rows":[{"id":"a","score":1,"seq":3,"text":"Ac"}],"upto":3}
+"#,
+    ),
+    (
+        "two adds with one id leave two documents, and an update one",
+        r#"{"op":"add","id":"a","suggest":[{"input":"Aa","weight":2}]}
+{"op":"add","id":"a","suggest":[{"input":"Ab","weight":3}]}
+{"op":"suggest","prefix":"a"}
+{"op":"update","id":"a","suggest":[{"input":"Ac","weight":1}]}
+{"op":"suggest","prefix":"a"}
+"#,
+        r#"{"line":1,"seq":1}
+{"line":2,"seq":2}
+{"complete":true,"line":3,"rows":[{"id":"a","score":3,"seq":2,"text":"Ab"},
+ {"id":"a","score":2,"seq":1,"text":"Aa"}],"upto":2}
+{"line":4,"seq":3}
+{"complete":true,"line":5,"rows":[{"id":"a","score":1,"seq":3,"text":"Ac"}],"upto":3}
+"#,
+    ),
+    (
+        "ids are compared whole and as they are given",
+        r#"{"op":"add","id":"ab","suggest":[{"input":"One"}]}
+{"op":"add","id":"A","suggest":[{"input":"Oo","weight":2}]}
+{"op":"delete","id":"a"}
+{"op":"update","id":"b","suggest":[{"input":"Other","weight":3}]}
+{"op":"suggest","prefix":"o"}
+"#,
+        r#"{"line":1,"seq":1}
+{"line":2,"seq":2}
+{"line":3,"seq":3}
+{"line":4,"seq":4}
+{"complete":true,"line":5,"rows":[{"id":"b","score":3,"seq":4,"text":"Other"},
+ {"id":"A","score":2,"seq":2,"text":"Oo"},
+ {"id":"ab","score":1,"seq":1,"text":"One"}],"upto":4}
+"#,
+    ),
+    (
+        "the fifth row comes up where a better one is deleted",
+        r#"{"op":"add","id":"a","suggest":[{"input":"Aa","weight":6}]}
+{"op":"add","id":"b","suggest":[{"input":"Ab","weight":5}]}
+{"op":"add","id":"c","suggest":[{"input":"Ac","weight":4}]}
+{"op":"add","id":"d","suggest":[{"input":"Ad","weight":3}]}
+{"op":"add","id":"e","suggest":[{"input":"Ae","weight":2}]}
+{"op":"add","id":"f","suggest":[{"input":"Af","weight":1}]}
+{"op":"delete","id":"b"}
+{"op":"suggest","prefix":"a"}
+"#,
+        r#"{"line":1,"seq":1}
+{"line":2,"seq":2}
+{"line":3,"seq":3}
+{"line":4,"seq":4}
+{"line":5,"seq":5}
+{"line":6,"seq":6}
+{"line":7,"seq":7}
+{"complete":true,"line":8,"rows":[{"id":"a","score":6,"seq":1,"text":"Aa"},
+ {"id":"c","score":4,"seq":3,"text":"Ac"},
+ {"id":"d","score":3,"seq":4,"text":"Ad"},
+ {"id":"e","score":2,"seq":5,"text":"Ae"},
+ {"id":"f","score":1,"seq":6,"text":"Af"}],"upto":7}
+"#,
+    ),
+];
