@@ -4,3 +4,4 @@ pub mod ViewLemmas
 pub mod ReleasedLemmas
 pub mod KeptLemmas
 pub mod MachineLemmas
+pub mod ViewingLemmas

@@ -1,25 +1,31 @@
 -- The lemmas on the fields, by what the calls of the bodies say of each field.
 use Rattle.std.proofs.Common.{◌≡◌, ℕ, ◌+◌, ◌<◌, ◌≤◌, List, [], ◌∷◌, ◌++◌, ◌-◌, length, map, refl}
-use Rattle.std.proofs.Common.{sym, ◌∙◌, ap, arith}
-use Rattle.std.proofs.lemmas.List.{length-append, map-append, take_at}
+use Rattle.std.proofs.Common.{true, sym, ◌∙◌, ap, arith}
+use Rattle.std.proofs.lemmas.Cmp.{nat_eq_equiv}
+use Rattle.std.proofs.lemmas.List.{length-append, map-append, take_at, append_assoc}
+use Rattle.std.proofs.lemmas.List.Elements.{Contains-push, Contains-append_left}
+use Rattle.std.proofs.lemmas.Map.Views.{list_any-from_Contains}
 use Rattle.sg_paths.specs.Operations.{Operation, NumberedDocument, documents_from}
 use Rattle.sg_paths.proofs.LiveDocumentsLemmas.{documents_from-append}
 use Rattle.index_core.specs.declared.limits.TheConstants.{MOST_OPERATIONS, MOST_BUFFERED}
 use Rattle.index_core.specs.declared.limits.TheConstants.{MOST_OPEN_VIEWS}
 use Rattle.index_core.specs.Histories.{HistoryEvent, accept, freeze, view_end, event_of, Record}
-use Rattle.index_core.specs.Histories.{View, open_views}
+use Rattle.index_core.specs.Histories.{View, is_among, open_views}
 use Rattle.index_core.specs.declared.event.Event.{Event}
 use Rattle.index_core.specs.LegalHistories.{IsOpenView}
 use Rattle.index_core.specs.OpenViews.{PlainPiece, PlainParts, AreNumberedFrom, piece_of}
 use Rattle.index_core.specs.OpenViews.{operations_of, documents_in, view_of, HoldsFirst}
+use Rattle.index_core.specs.OpenViews.{frozen_piece, pieces_among}
 use Rattle.index_core.specs.Calls.{with_event, after_accept, after_freeze, after_begin, after_end}
 use Rattle.index_core.specs.Calls.{view_of_all, beginning, begun_by}
 use Rattle.index_core.specs.Representation.{Kept, record_of, IsKept}
+use Rattle.index_core.proofs.HistoryLemmas.{skips}
 use Rattle.index_core.proofs.LegalLemmas.{are_legal}
 use Rattle.index_core.proofs.KeptLemmas.{accepting_last, kept_accept, after_accept-room}
 use Rattle.index_core.proofs.KeptLemmas.{kept_accept_last, after_accept-last, kept_freeze}
-use Rattle.index_core.proofs.KeptLemmas.{after_freeze-some, new_view, view_is, opened, kept_begin}
-use Rattle.index_core.proofs.KeptLemmas.{kept_end, after_end-is}
+use Rattle.index_core.proofs.KeptLemmas.{after_freeze-some}
+use Rattle.index_core.proofs.ViewingLemmas.{new_view, view_is, opened, kept_begin}
+use Rattle.index_core.proofs.ViewingLemmas.{kept_end, after_end-is}
 
 -- one event more, as the history has it
 pub mapped_one : (events same more : List Event) (event : Event)
@@ -53,6 +59,7 @@ after_room {k} kept history buffer places history-is buffer-is more =
         numbered = fields.numbered;
         frozen_upto_last = fields.frozen_upto_last;
         frozen_operations = fields.frozen_operations;
+        made_by_freezes = fields.made_by_freezes;
         few_pieces = fields.few_pieces;
         most_operations = fields.most_operations;
         begun = fields.begun;
@@ -179,6 +186,21 @@ freeze_all {k} kept caller generation from upto history pieces buffer places his
       sym (after_freeze-some k caller places kept.legal.numbered kept.fields some),
     ))))))
 
+-- pieces are those of their own generations, whatever others come before these
+among_from : (before : List ℕ) (pieces : List PlainPiece)
+    → pieces_among (before ++ map (λ piece. piece.generation) pieces) pieces ≡ pieces
+among_from before [] = refl
+among_from before (piece ∷ pieces) =
+    let generation = piece.generation in
+    let through = before ++ generation ∷ [] in
+    let later : List ℕ = map (λ piece. piece.generation) pieces in
+    let here : is_among generation (through ++ later) ≡ true =
+    list_any-from_Contains nat_eq_equiv generation (through ++ later)
+    (Contains-append_left through later generation (Contains-push before generation)) in
+    ap (λ (generations : List ℕ). pieces_among generations (piece ∷ pieces))
+    (sym (append_assoc before (generation ∷ []) later))
+    ∙ rw here (ap (λ (rest : List PlainPiece). piece ∷ rest) (among_from through pieces))
+
 -- the documents of pieces are those of their operations
 documents_are : (n : ℕ) (pieces : List PlainPiece) → AreNumberedFrom n pieces
     → documents_in pieces ≡ documents_from n (operations_of pieces)
@@ -242,6 +264,10 @@ begin_after {k} kept caller events room r frozen none events-are few enough =
             ∙ ap (documents_from 1) (sym (take_at (operations_of k.pieces) k.buffer k.frozen_count
             kept.fields.frozen_operations));
         of_generations = refl;
+        pieces = sym (ap (pieces_among (map (λ piece. piece.generation) k.pieces))
+            (skips (frozen_piece (operations_of k.pieces ++ k.buffer)) k.history
+            (beginning (new_view k caller)) refl ∙ kept.fields.made_by_freezes k.buffer)
+            ∙ among_from [] k.pieces);
       };
       is_opened = opened k caller kept.fields;
     })

@@ -18,11 +18,11 @@ pub record Size : Type 0 where
   pub live : ℕ
   pub paths : ℕ
 
--- the number of decimal digits of a number below 10^8; 0 has one
+-- the number of decimal digits of a number below 2^32; 0 has one
 abbrev pub digits : ℕ → ℕ
 digits n =
     1 + count_by (λ power. nat_le power n)
-    (10 ∷ 100 ∷ 1000 ∷ 10000 ∷ 100000 ∷ 1000000 ∷ 10000000 ∷ [])
+    (10 ∷ 100 ∷ 1000 ∷ 10000 ∷ 100000 ∷ 1000000 ∷ 10000000 ∷ 100000000 ∷ 1000000000 ∷ [])
 
 -- the first ten of a level, which is the number of digits of their live documents
 abbrev pub first_ten : List Size → ℕ → List Size
@@ -38,7 +38,7 @@ is_full sizes =
 -- the first ten of the lowest full level
 abbrev pub full_level : List Size → Option (List Size)
 full_level sizes =
-    find is_full (map (first_ten sizes) (1 ∷ 2 ∷ 3 ∷ 4 ∷ 5 ∷ 6 ∷ 7 ∷ 8 ∷ []))
+    find is_full (map (first_ten sizes) (1 ∷ 2 ∷ 3 ∷ 4 ∷ 5 ∷ 6 ∷ 7 ∷ 8 ∷ 9 ∷ 10 ∷ []))
 
 -- the first with more deleted documents than live ones, alone
 abbrev pub mostly_deleted : List Size → Option (List Size)

@@ -8,7 +8,7 @@ use Rattle.index_core.specs.declared.limits.TheConstants.{MOST_OPERATIONS, MOST_
 use Rattle.index_core.specs.Histories.{HistoryEvent, Record, View, frozen, drawn, begun_views}
 use Rattle.index_core.specs.Histories.{open_views, begun_merges, ended_view}
 use Rattle.index_core.specs.LegalHistories.{IsLegal}
-use Rattle.index_core.specs.OpenViews.{PlainPiece, operations_of, AreNumberedFrom}
+use Rattle.index_core.specs.OpenViews.{PlainPiece, operations_of, AreNumberedFrom, frozen_pieces}
 
 -- the operations of a batch that no view got, if there is one
 abbrev pub unshared_operations : Option PlainBatch → List Operation
@@ -39,13 +39,16 @@ abbrev pub AreViewsFrom : ℕ → List View → Type 0
 AreViewsFrom n [] = ⊤
 AreViewsFrom n (v ∷ later) = (v.view ≡ n) × AreViewsFrom (n + 1) later
 
--- what holds of the fields beside the law of the record
+-- what holds of the fields beside the law of the record; more is what comes behind the pieces
 pub record AreFields (k : Kept) : Type 0 where
   pub unmerged : begun_merges k.history ≡ []
   pub generations : drawn k.history ≡ map (λ piece. piece.generation) k.pieces
   pub numbered : AreNumberedFrom 1 k.pieces
   pub frozen_upto_last : frozen k.history ≡ k.frozen_count
   pub frozen_operations : length (operations_of k.pieces) ≡ k.frozen_count
+  pub made_by_freezes : (more : List Operation)
+      → frozen_pieces (record { history = k.history; journal = operations_of k.pieces ++ more })
+      ≡ k.pieces
   pub few_pieces : length k.pieces ≤ k.frozen_count
   pub most_operations : k.frozen_count + length k.buffer ≤ MOST_OPERATIONS
   pub begun : length (begun_views k.history) ≡ k.begun_count

@@ -1,15 +1,15 @@
 -- How a run ends, from how its reading and its writing end.
-use Rattle.std.proofs.Common.{◌≡◌, ◌≢◌, ◌≤◌, ◌<◌, ◌+◌, ℕ, Bool, true, false, List, [], ◌∷◌, ◌++◌}
-use Rattle.std.proofs.Common.{length, Option, Some, None, ◌⊎◌, inl, inr, refl, sym, ap, ◌∙◌, arith}
+use Rattle.std.proofs.Common.{◌≡◌, ◌≢◌, ◌≤◌, ◌<◌, ℕ, List, ◌++◌}
+use Rattle.std.proofs.Common.{length, Option, Some, None, inl, inr, refl, ap, arith}
 use Rattle.std.proofs.Common.{length-append}
 use Rattle.std.specs.Option.{IsSomeAnd}
 use Rattle.std.proofs.lemmas.Option.{same_Some}
 use Rattle.sg_edge.specs.Edge.{in_front, NothingLeft}
-use Rattle.sg_shell.specs.Inputs.{ReadsToTheEnd, StopsTooLong}
+use Rattle.sg_shell.specs.Inputs.{ReadsToTheEnd}
 use Rattle.sg_shell.specs.Runs.{output_of}
 use Rattle.sg_shell.proofs.RunLemmas.{output_of-session}
 use Rattle.sg_shell.specs.Ends.{SourceMembers, SinkMembers, WriteEnds, AnswersInput, RunEnds}
-use Rattle.sg_shell.specs.Ends.{IsFaultless, EndsByLength, is_run}
+use Rattle.sg_shell.specs.Ends.{IsFaultless, EndsByLength}
 use Rattle.sg_shell.specs.declared.reading.TheConstants.{MOST_INPUT_BYTES}
 use Rattle.sg_shell.specs.declared.status.Status.{Status}
 use Rattle.sg_shell.specs.declared.status.Status.TheVariants.{Done, Usage, ReadFault, WriteFault}

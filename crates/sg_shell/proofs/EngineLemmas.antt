@@ -1,6 +1,6 @@
 -- What the core's calls leave open, and what a view of all operations holds.
-use Rattle.std.proofs.Common.{◌≡◌, ◌≤◌, ℕ, Bool, true, false, cond, nat_eq, List, [], ◌∷◌, ◌++◌}
-use Rattle.std.proofs.Common.{length, take, Option, Some, refl, sym, ap, ◌∙◌, arith, append-nil}
+use Rattle.std.proofs.Common.{◌≡◌, ℕ, Bool, true, false, cond, nat_eq, List}
+use Rattle.std.proofs.Common.{length, Some, refl, sym, ap, ◌∙◌, append-nil}
 use Rattle.std.proofs.Common.{add-zero}
 use Rattle.std.proofs.Math.Seq.{take-length}
 use Rattle.sg_paths.specs.Operations.{Operation}
@@ -12,7 +12,7 @@ use Rattle.index_core.specs.OpenViews.{PlainParts, HoldsFirst, operations_of, vi
 use Rattle.index_core.specs.declared.limits.TheConstants.{MOST_BUFFERED}
 use Rattle.index_core.proofs.ViewLemmas.{open_views-skip}
 use Rattle.wire_json.specs.Rows.{Row}
-use Rattle.wire_json.specs.Replies.{Reply, rows}
+use Rattle.wire_json.specs.Replies.{rows}
 use Rattle.sg_shell.specs.Answers.{rows_of}
 use Rattle.sg_shell.specs.Runs.{caller}
 use Rattle.sg_shell.proofs.RunLemmas.{gains-begin, gains-freeze}

@@ -1,19 +1,19 @@
 -- The documents that the scan keeps are the live ones.
 use Rattle.std.proofs.Common.{◌≡◌, ◌≤◌, ◌<◌, ◌+◌, ℕ, zero, suc, Bool, true, false, cond, not, List}
-use Rattle.std.proofs.Common.{[], ◌∷◌, ◌++◌, length, get_or, take, drop, map, filter, Option, Some}
+use Rattle.std.proofs.Common.{[], ◌∷◌, ◌++◌, length, get_or, drop, Option, Some}
 use Rattle.std.proofs.Common.{None, unwrap_or, refl, sym, ap, ◌∙◌, arith, append_assoc}
 use Rattle.std.proofs.Common.{length-append, drop-cons, add-one, add-zero, zero-add, append-nil}
 use Rattle.std.proofs.Common.{◌⊎◌, inl, inr}
 use Rattle.std.specs.Prelude.{nat_lt}
 use Rattle.std.specs.Str.{bytes_eq}
-use Rattle.std.specs.List.{list_any, flat_map}
+use Rattle.std.specs.List.{list_any}
 use Rattle.std.specs.Cmp.Lexicographic.{nat_list_eq_equiv}
 use Rattle.std.proofs.Math.Seq.{take-length}
 use Rattle.std.proofs.lemmas.List.{drop_all}
 use Rattle.std.proofs.lemmas.Bool.Decides.{nat_tests}
 use Rattle.std.proofs.lemmas.List.Elements.{filter-append, filter_agree}
 use Rattle.sg_paths.specs.Operations.{Operation, NumberedDocument, documents_from, deleted_id}
-use Rattle.sg_paths.specs.LiveDocuments.{deletes_id, is_deleted, live_documents}
+use Rattle.sg_paths.specs.LiveDocuments.{deletes_id, live_documents}
 use Rattle.sg_paths.proofs.LiveDocumentsLemmas.{documents_from-append}
 use Rattle.index_core.specs.OpenViews.{PlainPiece, operations_of}
 use Rattle.sg_shell.specs.LastDeletes.{delete_after, last_delete, undeleted}

@@ -1,26 +1,22 @@
 -- What the lines of a run do to the record, and that their transcript is a session.
-use Rattle.std.proofs.Common.{◌≡◌, ◌≤◌, ◌<◌, ◌+◌, ℕ, Bool, true, false, cond, not, nat_eq, nat_le}
-use Rattle.std.proofs.Common.{List, [], ◌∷◌, ◌++◌, length, map, filter, Option, Some, None, refl}
+use Rattle.std.proofs.Common.{◌≡◌, ◌≤◌, ◌<◌, ◌+◌, ℕ, Bool, true, false, cond, nat_eq, nat_le}
+use Rattle.std.proofs.Common.{List, [], ◌∷◌, ◌++◌, length, map, filter, refl}
 use Rattle.std.proofs.Common.{sym, ap, ◌∙◌, subst, arith, append-nil, length-append, add-zero}
 use Rattle.std.proofs.Common.{zero-add, inl, inr}
 use Rattle.std.specs.List.{All, filter_map}
 use Rattle.std.proofs.lemmas.List.Elements.{All-cons, filter_map-append}
 use Rattle.std.proofs.lemmas.Bool.Decides.{nat_tests}
 use Rattle.sg_paths.specs.Operations.{Operation}
-use Rattle.index_core.specs.Histories.{HistoryEvent, accept, freeze, Record, accepted, frozen}
-use Rattle.index_core.specs.Histories.{buffered, accepted_number, next_generation}
+use Rattle.index_core.specs.Histories.{HistoryEvent, accept, Record, accepted}
+use Rattle.index_core.specs.Histories.{buffered, accepted_number}
 use Rattle.index_core.specs.Calls.{empty_record, with_event, with_operation, after_freeze}
-use Rattle.index_core.specs.Calls.{after_accept, after_begin, after_end, beginning, view_of_all}
-use Rattle.index_core.specs.Calls.{released_by_end}
+use Rattle.index_core.specs.Calls.{after_accept, after_begin}
 use Rattle.index_core.specs.declared.limits.TheConstants.{MOST_OPERATIONS, MOST_BUFFERED}
-use Rattle.wire_json.specs.Commands.{Command, blank, accepts, suggests, refused, command_of}
-use Rattle.wire_json.specs.Replies.{Reply, numbered, rows, failed}
-use Rattle.wire_json.specs.declared.replies.ErrorKind.TheVariants.{Full}
-use Rattle.sg_shell.specs.Lines.{lines_of}
-use Rattle.sg_shell.specs.Runs.{Line, Said, said, caller, step, accept_step, after_view}
-use Rattle.sg_shell.specs.Runs.{numbered_from, transcript_from, standard, input_lines}
-use Rattle.sg_shell.specs.Runs.{transcript_of, output, output_of}
-use Rattle.sg_shell.specs.Sessions.{wants_reply, MayReply, IsSession, Session}
+use Rattle.wire_json.specs.Commands.{Command, blank, accepts, suggests, refused}
+use Rattle.sg_shell.specs.Runs.{Line, Said, said, caller, step, after_view}
+use Rattle.sg_shell.specs.Runs.{transcript_from, input_lines}
+use Rattle.sg_shell.specs.Runs.{transcript_of, output_of}
+use Rattle.sg_shell.specs.Sessions.{wants_reply, MayReply, Session}
 use Rattle.sg_shell.proofs.SessionLemmas.{at_most, Follows, follows-nil, follows-cons}
 use Rattle.sg_shell.proofs.SessionLemmas.{next-numbered, next-full, next-rows, next-refused}
 

@@ -1,26 +1,24 @@
 -- What a run prints is a session.
-use Rattle.std.proofs.Common.{◌≡◌, ◌≢◌, ◌≤◌, ◌<◌, ◌+◌, ◌⊎◌, inl, inr, ℕ, Bool, true, false, cond}
-use Rattle.std.proofs.Common.{List, [], ◌∷◌, ◌++◌, length, take, drop, map, filter, not, Option}
-use Rattle.std.proofs.Common.{Some, None, refl, sym, ap, ◌∙◌, subst, arith, append_assoc}
-use Rattle.std.proofs.Common.{append-nil, length-append, IfSome, add_assoc, add-zero}
+use Rattle.std.proofs.Common.{◌≡◌, ◌≤◌, ◌<◌, ◌+◌, ℕ}
+use Rattle.std.proofs.Common.{List, [], ◌∷◌, ◌++◌, length, take, drop, filter, not, Option}
+use Rattle.std.proofs.Common.{Some, None, refl, sym, ap, ◌∙◌, arith, append_assoc}
+use Rattle.std.proofs.Common.{length-append, IfSome, add-zero}
 use Rattle.std.specs.List.{All, AllPairs, filter_map, enumerate_from}
 use Rattle.std.specs.List.{list_any}
 use Rattle.std.proofs.lemmas.List.Elements.{All-cons, filter_map-append}
 use Rattle.std.proofs.Math.Seq.{take-append_seam, take-length}
 use Rattle.sg_shell.specs.Answers.{rows_of}
 use Rattle.std.proofs.lemmas.List.Kept.{AllPairs-cons}
-use Rattle.std.proofs.lemmas.Grind.{common_steps}
-use Rattle.std.proofs.lemmas.Bool.Decides.{nat_tests}
 use Rattle.sg_paths.specs.Operations.{Operation, documents_from}
-use Rattle.sg_paths.specs.LiveDocuments.{live_documents, is_deleted, deletes_id}
+use Rattle.sg_paths.specs.LiveDocuments.{live_documents, deletes_id}
 use Rattle.index_core.specs.declared.limits.TheConstants.{MOST_OPERATIONS}
-use Rattle.wire_json.specs.Commands.{Command, blank, accepts, suggests, refused}
-use Rattle.wire_json.specs.Replies.{Reply, numbered, rows, failed}
+use Rattle.wire_json.specs.Commands.{accepts, suggests, refused}
+use Rattle.wire_json.specs.Replies.{numbered, rows, failed}
 use Rattle.wire_json.specs.declared.replies.ErrorKind.{ErrorKind}
 use Rattle.wire_json.specs.declared.replies.ErrorKind.TheVariants.{Full}
-use Rattle.sg_shell.specs.Runs.{Line, Said}
+use Rattle.sg_shell.specs.Runs.{Said}
 use Rattle.sg_shell.specs.Sessions.{number_printed, upto_printed, numbered_operation, IsFull}
-use Rattle.sg_shell.specs.Sessions.{IsAnswered, PrintsRows, StandsBefore, MayReply}
+use Rattle.sg_shell.specs.Sessions.{IsAnswered, StandsBefore}
 
 -- ---- order
 

@@ -1,5 +1,5 @@
 -- How a run ends. Source: this project's own.
-use Rattle.std.specs.Prelude.{◌≡◌, ◌≤◌, ◌<◌, ◌⊎◌, ℕ, Bool, true, false, List, [], ◌∷◌, take, length}
+use Rattle.std.specs.Prelude.{◌≡◌, ◌≤◌, ◌<◌, ◌⊎◌, ℕ, Bool, false, List, [], ◌∷◌, take, length}
 use Rattle.std.specs.Prelude.{Option, codes, bytes_eq, IsSomeAnd}
 use Rattle.sg_edge.specs.Edge.{behind, Rose}
 use Rattle.sg_shell.specs.Inputs.{ReadsToTheEnd, StopsAtFault, StopsTooLong, StopsWithoutMemory}

@@ -1,11 +1,11 @@
 -- The last operation that deletes an id, by which the scan tells live documents. Source: this
 -- project's own. No public clause cites it.
-use Rattle.std.specs.Prelude.{ℕ, ◌+◌, nat_lt, not, if◌then◌else◌, Option, Some, None, unwrap_or}
-use Rattle.std.specs.Prelude.{List, [], ◌∷◌, ◌++◌, filter}
+use Rattle.std.specs.Prelude.{ℕ, ◌+◌, nat_lt, not, if◌then◌else◌, Option, Some, unwrap_or}
+use Rattle.std.specs.Prelude.{List, [], ◌∷◌, filter}
 use Rattle.std.specs.Str.{bytes_eq}
 use Rattle.std.specs.HashMap.{HashMap, get_by}
 use Rattle.std.specs.Borrow.{Bor}
-use Rattle.sg_paths.specs.Operations.{Operation, NumberedDocument, documents_from}
+use Rattle.sg_paths.specs.Operations.{Operation, NumberedDocument}
 use Rattle.sg_paths.specs.LiveDocuments.{deletes_id}
 
 -- what a map by ids has at an id

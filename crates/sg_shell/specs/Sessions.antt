@@ -1,6 +1,6 @@
 -- What an output says of an input, for one worker and one phase. Source: this project's own; the
 -- numbers and refreshes are those of Lucene's IndexWriter and its near-real-time readers.
-use Rattle.std.specs.Prelude.{◌≡◌, ◌≤◌, ◌<◌, ◌⊎◌, ⊤, ℕ, Bool, true, false, not, List, [], ◌∷◌}
+use Rattle.std.specs.Prelude.{◌≡◌, ◌≤◌, ◌<◌, ◌⊎◌, ⊤, ℕ, Bool, true, false, List}
 use Rattle.std.specs.Prelude.{length, map, filter, Option, Some, None, IfSome, All, AllPairs}
 use Rattle.std.specs.List.{filter_map, enumerate_from}
 use Rattle.sg_paths.specs.Operations.{Operation}
@@ -11,7 +11,7 @@ use Rattle.wire_json.specs.Replies.{Reply, numbered, rows, failed}
 use Rattle.wire_json.specs.Rows.{Row}
 use Rattle.wire_json.specs.declared.replies.ErrorKind.TheVariants.{Full}
 use Rattle.sg_shell.specs.Answers.{rows_of}
-use Rattle.sg_shell.specs.Runs.{Line, Said, input_lines, output}
+use Rattle.sg_shell.specs.Runs.{Said, input_lines, output}
 
 -- whether a line has a reply
 abbrev pub wants_reply : Command → Bool

@@ -1,13 +1,13 @@
 -- What a line asks for. Source: this project's own.
-use Rattle.std.specs.Prelude.{◌≡◌, ℕ, Bool, true, false, ◌&&◌, ◌||◌, ◌==◌, nat_le, if◌then◌else◌}
-use Rattle.std.specs.Prelude.{List, [], ◌∷◌, length, Option, Some, None, Result, Ok, Err, ⊤}
+use Rattle.std.specs.Prelude.{ℕ, Bool, true, false, ◌&&◌, ◌||◌, ◌==◌, nat_le, if◌then◌else◌}
+use Rattle.std.specs.Prelude.{List, [], ◌∷◌, length, Option, Some, None}
 use Rattle.std.specs.Str.{is_utf8}
 use Rattle.std.specs.List.{list_all}
 use Rattle.serde_json.specs.Data.{Data}
 use Rattle.serde_json.specs.Read.{read}
 use Rattle.sg_analysis.specs.Analysis.{Analysis, reserved, empty, too_long, key, analysis_of}
 use Rattle.sg_analysis.specs.declared.analyzer.Analyzer.{Analyzer}
-use Rattle.sg_paths.specs.Documents.{PlainSuggestion, PlainDocument}
+use Rattle.sg_paths.specs.Documents.{PlainDocument}
 use Rattle.sg_paths.specs.Operations.{Operation, adds, updates, deletes}
 use Rattle.sg_paths.specs.declared.limits.TheConstants.{MOST_TEXT_BYTES}
 use Rattle.wire_json.specs.Forms.{Entry, Form, add, update, delete, suggest, form_of}

@@ -1,6 +1,6 @@
 -- The forms of a line that are read today. Source: this project's own, after the documents and
 -- queries of Elasticsearch's completion suggester.
-use Rattle.std.specs.Prelude.{◌≡◌, ℕ, Bool, ◌&&◌, nat_le, if◌then◌else◌, List, length, Option, Some}
+use Rattle.std.specs.Prelude.{ℕ, Bool, ◌&&◌, nat_le, if◌then◌else◌, List, length, Option, Some}
 use Rattle.std.specs.Prelude.{None, option_and_then, option_map, codes, bytes_eq, is_none}
 use Rattle.serde_json.specs.Data.{Data}
 use Rattle.serde_json.specs.Find.{as_array}

@@ -1,6 +1,6 @@
 -- The members of a JSON value that a line uses. Source: this project's own, over `serde_json`'s
 -- reading, which keeps one of the members with one name.
-use Rattle.std.specs.Prelude.{◌≡◌, ℕ, List, Option, Some, None, option_and_then, nat_le}
+use Rattle.std.specs.Prelude.{ℕ, List, Option, Some, None, option_and_then, nat_le}
 use Rattle.std.specs.Prelude.{if◌then◌else◌}
 use Rattle.serde_json.specs.Data.{Data, null, boolean, number, string, array, object, Items}
 use Rattle.serde_json.specs.Data.{no_items, item}

@@ -1,7 +1,7 @@
 -- Replies and the lines that they are written as. Source: this project's own, over JSON (RFC 8259)
 -- as `serde_json` defines its compact form.
 use Rattle.std.specs.Prelude.{ℕ, List, [], ◌∷◌, ◌++◌, codes, true, map}
-use Rattle.serde_json.specs.Data.{Data, boolean, number, unsigned, string, array, object, Members}
+use Rattle.serde_json.specs.Data.{Data, boolean, number, unsigned, string, array, object}
 use Rattle.serde_json.specs.Data.{member, no_members}
 use Rattle.serde_json.specs.View.{items_of}
 use Rattle.serde_json.specs.Written.{compact_text}

@@ -1,12 +1,6 @@
 -- A view of all operations holds the journal, so what is live in it is live in the journal.
 use Rattle.std.proofs.Common.{◌≡◌, ◌∙◌, sym, ap, arith, length}
-use Rattle.sg_paths.specs.Operations.{Operation}
-use Rattle.sg_paths.specs.LiveDocuments.{live_documents}
 use Rattle.index_core.specs.Histories.{accepted}
-use Rattle.index_core.specs.OpenViews.{operations_of}
-use Rattle.wire_json.specs.Replies.{Reply, rows}
-use Rattle.wire_json.specs.Rows.{Row}
-use Rattle.sg_shell.specs.Answers.{rows_of}
 use Rattle.sg_shell.proofs.EngineLemmas.{parts_hold, rows-view}
 use Rattle.sg_shell.proofs.engine.suggest.Goals as goal
 

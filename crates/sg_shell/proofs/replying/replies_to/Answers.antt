@@ -1,4 +1,4 @@
-use Rattle.std.proofs.Common.{◌≡◌, ◌+◌, arith}
+use Rattle.std.proofs.Common.{◌+◌, arith}
 use Rattle.sg_shell.proofs.ReplyLemmas.{output-more}
 use Rattle.sg_shell.proofs.replying.replies_to.Goals as goal
 

@@ -1,5 +1,5 @@
-use Rattle.std.proofs.Common.{◌≡◌, ◌≢◌, true, false, sym, ◌∙◌}
-use Rattle.sg_shell.specs.Ends.{is_run, source_of, sink_of}
+use Rattle.std.proofs.Common.{◌≢◌}
+use Rattle.sg_shell.specs.Ends.{source_of, sink_of}
 use Rattle.sg_shell.specs.declared.status.Status.TheVariants.{Usage}
 use Rattle.sg_shell.proofs.EndLemmas.{ends_by_length}
 use Rattle.sg_shell.proofs.running.run.Goals as goal

@@ -1,8 +1,7 @@
-use Rattle.std.proofs.Common.{◌≡◌, Some, None, sym, ◌∙◌, IfOk, IfErr, subst}
+use Rattle.std.proofs.Common.{None, sym, ◌∙◌, IfErr, subst}
 use Rattle.std.proofs.lemmas.Result.{IfOk-weaker}
-use Rattle.serde_json.specs.View.{view}
-use Rattle.wire_json.specs.Commands.{Command, command_of, command_of_value}
-use Rattle.wire_json.specs.CommandForms.{plain_command, Refuses}
+use Rattle.wire_json.specs.Commands.{Command}
+use Rattle.wire_json.specs.CommandForms.{Refuses}
 use Rattle.wire_json.proofs.CommandLemmas.{value_of-read, value_of-unread, command_of-filled}
 use Rattle.wire_json.proofs.reading.command.Goals as goal
 

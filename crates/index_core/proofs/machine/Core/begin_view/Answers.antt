@@ -10,7 +10,8 @@ use Rattle.index_core.specs.Histories.{HistoryEvent, freeze, begin, event_of, Re
 use Rattle.index_core.specs.OpenViews.{PlainPiece, view_of, piece_of}
 use Rattle.index_core.specs.Calls.{after_freeze}
 use Rattle.index_core.specs.Representation.{Kept, IsKept, record_of, buffer_of}
-use Rattle.index_core.proofs.KeptLemmas.{new_view, after_freeze-none}
+use Rattle.index_core.proofs.KeptLemmas.{after_freeze-none}
+use Rattle.index_core.proofs.ViewingLemmas.{new_view}
 use Rattle.index_core.proofs.MachineLemmas.{after_room, freeze_all, begin_after, Begins, opens_view}
 use Rattle.index_core.proofs.MachineLemmas.{mapped_one, journal_length}
 use Rattle.index_core.proofs.ViewLemmas.{open_views-skip}

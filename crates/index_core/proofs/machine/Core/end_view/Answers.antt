@@ -8,7 +8,7 @@ use Rattle.index_core.specs.OpenViews.{view_of, without}
 use Rattle.index_core.specs.Calls.{after_end, released_by_end}
 use Rattle.index_core.specs.Representation.{Kept, IsKept, record_of, buffer_of}
 use Rattle.index_core.proofs.MachineLemmas.{end_one, mapped_one}
-use Rattle.index_core.proofs.KeptLemmas.{none_released}
+use Rattle.index_core.proofs.ViewingLemmas.{none_released}
 use Rattle.index_core.proofs.ViewLemmas.{open_views-end}
 use Rattle.index_core.proofs.machine.Core.end_view.Goals as goal
 
