@@ -1,6 +1,6 @@
 //! How a run ends.
-ghost use Rattle.std.specs.Prelude.{◌≡◌};
-ghost use Rattle.sg_shell.specs.Statuses.{code_of};
+ghost use Rattle.std.specs.Prelude.{◌≡◌, option_map};
+ghost use Rattle.sg_shell.specs.Statuses.{code_of, message_of};
 
 /// How a run ends.
 #[derive(Clone, Copy, Debug, PartialEq, Eq)]
@@ -35,7 +35,9 @@ impl Status {
     }
 
     /// The line for standard error, without its line feed; none where all went well.
-    pub fn message(self) -> Option<&'static str> {
+    pub fn message(self) -> Option<&'static str>
+        ensures { option_map (λ s. s.now) result ≡ message_of self }
+    {
         match self {
             Status::Done => None,
             Status::Usage => Some(
