@@ -110,7 +110,6 @@ impl Core {
     pub fn open_views(&self) -> u32
         ensures { result ≡ length (open_views self.now.history) }
     {
-        let _ = &self.events;
         self.opened
     }
 
