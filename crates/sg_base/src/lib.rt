@@ -5,6 +5,7 @@
 mod bytes;
 mod context;
 mod counts;
+mod cut;
 mod key;
 mod limits;
 mod list;
@@ -15,6 +16,7 @@ mod text;
 pub use bytes::Bytes;
 pub use context::{Context, ContextError};
 pub use counts::saturated_u32;
+pub use cut::Cut;
 pub use key::Key;
 pub use limits::{Cost, MOST_BOOST, MOST_CONTEXT_BYTES, MOST_KEY_BYTES, MOST_WEIGHT, Weight};
 pub use list::List;
