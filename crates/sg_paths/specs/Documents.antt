@@ -1,6 +1,6 @@
 -- Suggestions and documents as plain data, and their limits. Source: Lucene's suggest.document; the
 -- limits are this project's own.
-use Rattle.std.specs.Prelude.{ℕ, List, length, ◌≡◌, ◌≤◌, ◌<◌}
+use Rattle.std.specs.Prelude.{ℕ, Bool, true, false, ◌&&◌, nat_le, List, length, ◌≡◌, ◌≤◌, ◌<◌}
 use Rattle.sg_base.specs.declared.limits.TheConstants.{MOST_WEIGHT}
 use Rattle.sg_base.specs.Counts.{saturated}
 use Rattle.sg_paths.specs.declared.limits.TheConstants.{MOST_TEXT_BYTES, MOST_CONTEXTS}
@@ -10,6 +10,10 @@ use Rattle.sg_paths.specs.declared.suggestion.SuggestionError.TheVariants.{TextL
 use Rattle.sg_paths.specs.declared.suggestion.SuggestionError.TheVariants.{Weight, Contexts}
 use Rattle.sg_paths.specs.declared.document.DocumentError.{DocumentError}
 use Rattle.sg_paths.specs.declared.document.DocumentError.TheVariants.{Id, NoSuggestion, TooMany}
+
+-- whether an id has 1 to 255 bytes
+abbrev pub is_id : List ℕ → Bool
+is_id id = nat_le 1 (length id) && nat_le (length id) MOST_ID_BYTES
 
 -- a text to suggest, with the key that finds it
 pub record PlainSuggestion : Type 0 where
@@ -49,14 +53,10 @@ RefusesSuggestion s (Contexts count) =
     (length s.text ≤ MOST_TEXT_BYTES) × (0 < length s.key) × (s.weight ≤ MOST_WEIGHT)
     × (MOST_CONTEXTS < length s.contexts) × (count ≡ saturated (length s.contexts))
 
--- whether an id has 1 to 255 bytes
-abbrev pub IsId : List ℕ → Type 0
-IsId id = (0 < length id) × (length id ≤ MOST_ID_BYTES)
-
 -- why it is refused as a document: the first limit that it doesn't keep
 abbrev pub RefusesDocument : PlainDocument → DocumentError → Type 0
-RefusesDocument d (Id bytes) = (IsId d.id → ⊥) × (bytes ≡ saturated (length d.id))
-RefusesDocument d NoSuggestion = IsId d.id × (length d.suggestions ≡ 0)
+RefusesDocument d (Id bytes) = (is_id d.id ≡ false) × (bytes ≡ saturated (length d.id))
+RefusesDocument d NoSuggestion = (is_id d.id ≡ true) × (length d.suggestions ≡ 0)
 RefusesDocument d (TooMany count) =
-    IsId d.id × (MOST_SUGGESTIONS < length d.suggestions)
+    (is_id d.id ≡ true) × (MOST_SUGGESTIONS < length d.suggestions)
     × (count ≡ saturated (length d.suggestions))

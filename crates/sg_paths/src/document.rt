@@ -1,6 +1,6 @@
 //! Documents.
 ghost use Rattle.std.specs.Prelude.{◌≡◌, IfErr, IfOk};
-ghost use Rattle.sg_paths.specs.Documents.{IsDocument, RefusesDocument};
+ghost use Rattle.sg_paths.specs.Documents.{IsDocument, RefusesDocument, is_id};
 
 use crate::limits::{MOST_ID_BYTES, MOST_SUGGESTIONS};
 use crate::suggestion::Suggestion;
@@ -54,6 +54,13 @@ impl Model for Document {
     }) };
 }
 
+/// Whether a text has the length of an id.
+pub fn is_id(text: &str) -> bool
+    ensures { result ≡ is_id text.now }
+{
+    1 <= text.len() && text.len() <= MOST_ID_BYTES
+}
+
 fn copied_suggestions(
     alloc: Global,
     suggestions: &[Suggestion],
@@ -77,10 +84,9 @@ impl Document {
           suggestions = suggestions.items;
         })) }
     {
-        let id_bytes = id.as_str().len();
-        if id_bytes == 0 || id_bytes > MOST_ID_BYTES {
+        if !is_id(id.as_str()) {
             return Err(DocumentError::Id {
-                bytes: saturated_u32(id_bytes),
+                bytes: saturated_u32(id.as_str().len()),
             });
         }
         if suggestions.is_empty() {

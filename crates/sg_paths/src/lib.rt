@@ -8,7 +8,7 @@ mod live;
 mod op;
 mod suggestion;
 
-pub use document::{Document, DocumentError};
+pub use document::{Document, DocumentError, is_id};
 pub use limits::{MOST_CONTEXTS, MOST_ID_BYTES, MOST_SUGGESTIONS, MOST_TEXT_BYTES};
 pub use live::{
     an_update_leaves_its_own_document_alone, deletes_reach_earlier_documents_only,
