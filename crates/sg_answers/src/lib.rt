@@ -3,6 +3,7 @@
 #![tactic(auto)]
 
 mod answers;
+mod candidate;
 mod live_document;
 
 pub use answers::first_rows;
