@@ -7,4 +7,4 @@ mod candidate;
 mod live_document;
 
 pub use answers::first_rows;
-pub use live_document::LiveDocument;
+pub use live_document::{LiveDocument, document_with};
