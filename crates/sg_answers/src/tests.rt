@@ -171,12 +171,21 @@ fn a_document_is_found_by_its_number(rt: HostRuntime) -> Result<(), Fail> {
         live.push(LiveDocument { seq, document })?;
     }
     sort_by_number(&mut live);
-    for (seq, weight) in [(0, 0), (1, 0), (3, 3), (4, 0), (5, 5), (9, 9), (10, 0), (u64::MAX, 0)] {
+    for (seq, wanted) in [
+        (0, 0),
+        (2, 0),
+        (3, 3),
+        (4, 0),
+        (5, 5),
+        (9, 9),
+        (10, 0),
+        (u64::MAX, 0),
+    ] {
         let found = match document_with(live.as_slice(), seq) {
             Some(found) => found.seq,
             None => 0,
         };
-        assert_eq!(rt; found, weight, "{seq}");
+        assert_eq!(rt; found, wanted, "{seq}");
     }
     Ok(())
 }
