@@ -1,8 +1,8 @@
 //! The answer to a query, by a scan over all documents.
-ghost use Rattle.std.specs.Prelude.{◌≡◌, ◌≤◌, [], ◌∷◌, IfOk, length, filter_map, map};
+ghost use Rattle.std.specs.Prelude.{◌≡◌, ◌≤◌, [], ◌∷◌, IfOk, length, filter_map};
 ghost use Rattle.sg_paths.specs.declared.limits.TheConstants.{MOST_SUGGESTIONS};
 ghost use Rattle.sg_context.specs.Queries.{IsQuery};
-ghost use Rattle.sg_answers.specs.Answers.{document_row, answer, first_rows};
+ghost use Rattle.sg_answers.specs.Answers.{document_row, first_rows};
 ghost use Rattle.sg_answers.specs.Scans.{given_contexts, greatest_boost, first_entry};
 
 use crate::candidate::{Candidate, sooner};
