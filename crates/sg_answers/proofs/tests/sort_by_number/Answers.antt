@@ -1,3 +1,4 @@
+-- What std says of the sorted documents is that their numbers don't fall.
 use Rattle.std.proofs.Common.{rules}
 use Rattle.std.proofs.lemmas.List.Sorted.{IsNonDecreasingBy-from_sort_by_key}
 use Rattle.sg_answers.proofs.tests.sort_by_number.Goals as goal
