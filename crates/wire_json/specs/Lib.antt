@@ -2,7 +2,9 @@ pub mod Rows
 pub mod Replies
 pub mod ReplyForms
 pub mod Members
+pub mod Suggested
+pub mod Asked
 pub mod Forms
-pub mod ReadForms
+pub mod LineErrors
 pub mod Commands
 pub mod CommandForms

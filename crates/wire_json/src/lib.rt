@@ -3,16 +3,20 @@
 #![tactic(auto)]
 
 mod commands;
+mod error_names;
+mod errors;
 mod forms;
-mod members;
+mod keys;
+mod limits;
 mod reading;
 mod replies;
 mod reply_lines;
 
-pub use commands::{Command, LineError, MOST_BLANK_BYTES};
+pub use commands::Command;
+pub use errors::{ErrorKind, LineError};
+pub use forms::Change;
+pub use keys::KeyFault;
+pub use limits::{DEFAULT_WEIGHT, MOST_LINE_BYTES, MOST_WEIGHT_DIGITS};
 pub use reading::command;
-pub use replies::{ErrorKind, OutRow, Reply};
+pub use replies::{OutRow, Reply};
 pub use reply_lines::reply;
-
-#[cfg(test)]
-mod tests;
