@@ -127,17 +127,17 @@ pub fn check_suggest(
     ensures rows { OnOk result (is_none (rows_asked (option_map (λ v. view v.now) k.entry))
         ≡ false) }
 {
-    let keys = slice::from_ref(key);
+    let only = slice::from_ref(key);
     if lane_of(lanes, lane).is_none() {
         return Err(LineError::Lane);
     }
-    if any_is_empty(keys) {
+    if any_is_empty(only) {
         return Err(LineError::Empty);
     }
-    if any_is_reserved(keys) || any_is_reserved_asked(contexts) {
+    if any_is_reserved(only) || any_is_reserved_asked(contexts) {
         return Err(LineError::Reserved);
     }
-    if any_is_too_long(keys) {
+    if any_is_too_long(only) {
         return Err(LineError::Key);
     }
     if are_wrong_asked(contexts) {

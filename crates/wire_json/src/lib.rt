@@ -25,3 +25,6 @@ pub use limits::{DEFAULT_WEIGHT, MOST_LINE_BYTES, MOST_WEIGHT_DIGITS};
 pub use reading::command;
 pub use replies::{OutRow, Reply};
 pub use reply_lines::reply;
+
+#[cfg(test)]
+mod tests;
