@@ -3,3 +3,5 @@ pub mod SuggestedLemmas
 pub mod ReadyLemmas
 pub mod CommandLemmas
 pub mod ReplyLemmas
+pub mod LineFeedLemmas
+pub mod ToldLemmas

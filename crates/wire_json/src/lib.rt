@@ -19,12 +19,12 @@ mod suggested;
 
 pub use commands::Command;
 pub use errors::{ErrorKind, LineError};
-pub use forms::Change;
-pub use keys::KeyFault;
 pub use limits::{DEFAULT_WEIGHT, MOST_LINE_BYTES, MOST_WEIGHT_DIGITS};
 pub use reading::command;
 pub use replies::{OutRow, Reply};
-pub use reply_lines::reply;
+pub use reply_lines::{replies_with_the_same_data_are_the_same, reply};
 
+#[cfg(test)]
+mod reply_tests;
 #[cfg(test)]
 mod tests;

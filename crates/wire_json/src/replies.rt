@@ -29,8 +29,8 @@ pub enum Reply {
         line: u64,
         seq: u64,
     },
-    /// The rows of a query, in their order, over the first `upto` operations. Without a cut they are
-    /// all that were asked for, or all there are.
+    /// The rows of a query, in their order, over the first `upto` operations. Without a cut they
+    /// are all that were asked for, or all there are.
     Rows {
         line: u64,
         upto: u64,

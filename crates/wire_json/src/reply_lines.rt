@@ -1,12 +1,14 @@
 //! The lines that replies are written as.
-ghost use Rattle.std.specs.Prelude.{◌≡◌, ◌++◌, ◌∷◌, [], IfOk, map, Some, None, codes, option_map};
+ghost use Rattle.std.specs.Prelude.{◌≡◌, IfOk, IsUtf8, map, Some, None, codes, option_map};
 ghost use Rattle.hex.specs.Hex.{encode_lower};
 ghost use Rattle.serde_json.specs.View.{view};
-ghost use Rattle.serde_json.specs.Written.{has_float};
+ghost use Rattle.serde_json.specs.Read.{read};
+ghost use Rattle.serde_json.specs.Written.{compact_text};
 ghost use Rattle.wire_json.specs.Replies.{row_data, row_list, reply_data, reply_text, cut_data};
 ghost use Rattle.wire_json.specs.Replies.{counted_behind, counted_before, named_before, rows_data};
 ghost use Rattle.wire_json.specs.Replies.{opened_data};
 ghost use Rattle.wire_json.specs.ReplyForms.{plain_reply};
+ghost use Rattle.wire_json.specs.WrittenReplies.{IsLine, read_line, DataTellTheReply};
 
 use crate::error_names::error_name;
 use crate::replies::{OutRow, Reply};
@@ -150,12 +152,33 @@ fn reply_value(alloc: Global, reply: &Reply) -> Result<Value, AllocError>
     }
 }
 
-/// The reply as one line of compact JSON, members in ascending order of name, with its line feed.
-pub fn reply(alloc: Global, reply: &Reply) -> Result<Vec<u8>, AllocError>
-    ensures { IfOk result (λ line. line.items ≡ reply_text (plain_reply reply.now)) }
+// The reply as compact JSON, without a line feed.
+fn reply_json(alloc: Global, reply: &Reply) -> Result<Vec<u8>, AllocError>
+    ensures text { IfOk result (λ text. text.items
+        ≡ compact_text (reply_data (plain_reply reply.now))) }
+    ensures utf8 { IfOk result (λ text. IsUtf8 text.items) }
+    ensures reads_back { IfOk result (λ text. read text.items
+        ≡ Some (reply_data (plain_reply reply.now))) }
 {
     let value = reply_value(alloc, reply)?;
-    let mut line = value.to_vec(alloc)?;
+    let text = value.to_vec(alloc)?;
+    Ok(text)
+}
+
+/// The reply as one line of compact JSON, members in ascending order of name, with its line feed.
+pub fn reply(alloc: Global, reply: &Reply) -> Result<Vec<u8>, AllocError>
+    ensures text { IfOk result (λ line. line.items ≡ reply_text (plain_reply reply.now)) }
+    ensures one_line { IfOk result (λ line. IsLine line.items) }
+    ensures utf8 { IfOk result (λ line. IsUtf8 line.items) }
+    ensures reads_back { IfOk result (λ line. read_line line.items
+        ≡ Some (reply_data (plain_reply reply.now))) }
+{
+    let mut line = reply_json(alloc, reply)?;
     line.push(b'\n')?;
     Ok(line)
 }
+
+/// Nothing of a reply is lost on its line: replies with the same data are the same.
+pub fn replies_with_the_same_data_are_the_same()
+    ensures { DataTellTheReply }
+{}
