@@ -12,12 +12,12 @@ use Rattle.sg_context.specs.declared.limits.TheConstants.{DEFAULT_K}
 use Rattle.sg_paths.specs.Documents.{PlainDocument}
 use Rattle.sg_paths.specs.Operations.{Operation}
 use Rattle.wire_json.specs.Suggested.{Entry, entries_of}
-use Rattle.wire_json.specs.LineErrors.{Keyed, input_key, prefix_key, keys_of, errors_by}
+use Rattle.wire_json.specs.LineErrors.{Keyed, input_key, prefix_key, keys_of, errors_by, used}
 use Rattle.wire_json.specs.LineErrors.{first_that_applies, error_of_form}
 use Rattle.wire_json.specs.Forms.{Form, change, suggest}
 use Rattle.wire_json.specs.Commands.{accepts, suggests, refused, document_of, query_of}
-use Rattle.wire_json.specs.Asked.{query_context_of, rows_asked}
-use Rattle.wire_json.specs.Commands.{key_or_none}
+use Rattle.wire_json.specs.Asked.{QueryOptions, query_context_of, rows_asked}
+use Rattle.wire_json.specs.Commands.{key_or_empty}
 use Rattle.wire_json.specs.Commands.{suggestion_of, operation_by, lane_or_first, command_by_form}
 use Rattle.wire_json.specs.Commands.{command_of_form, command_of_value, command_of_text, value_of}
 use Rattle.wire_json.specs.CommandForms.{kind_of, Refuses}
@@ -49,19 +49,19 @@ refused_by analyzer lanes f (Some kind) is = rw is refl
 -- a form is refused for the error that applies first
 pub refused-error_of_form : (analyzer : Analyzer) (lanes : ℕ) (f : Form) (keys : List Keyed)
     (error : LineError) → keys ≡ keys_of analyzer f
-    → first_that_applies (errors_by lanes f keys) ≡ kind_of error
+    → first_that_applies (errors_by lanes (used f) keys) ≡ kind_of error
     → Refuses (command_of_form analyzer lanes f) error
 refused-error_of_form analyzer lanes f keys error same is =
     refused_by analyzer lanes f (kind_of error)
-    (ap (λ ks. first_that_applies (errors_by lanes f ks)) (sym same) ∙ is)
+    (ap (λ ks. first_that_applies (errors_by lanes (used f) ks)) (sym same) ∙ is)
 
 -- without one it asks for its command
 pub command-error_of_form : (analyzer : Analyzer) (lanes : ℕ) (f : Form) (keys : List Keyed)
-    → keys ≡ keys_of analyzer f → first_that_applies (errors_by lanes f keys) ≡ None
+    → keys ≡ keys_of analyzer f → first_that_applies (errors_by lanes (used f) keys) ≡ None
     → command_of_form analyzer lanes f ≡ command_by_form analyzer lanes f
 command-error_of_form analyzer lanes f keys same is =
     let none : error_of_form analyzer lanes f ≡ None =
-    ap (λ ks. first_that_applies (errors_by lanes f ks)) (sym same) ∙ is in
+    ap (λ ks. first_that_applies (errors_by lanes (used f) ks)) (sym same) ∙ is in
     rw none refl
 
 -- the keys of a change's entries are those that its form asks for
@@ -98,17 +98,17 @@ command_by_form-change analyzer lanes how lane id ds l o d at is document =
     rw (at, is, document) refl
 
 pub command_by_form-suggest : (analyzer : Analyzer) (lanes : ℕ) (lane : Option Data)
-    (prefix : List ℕ) (k : Option Data) (ds : List Data) (l : ℕ) (q : PlainQuery)
-    → l ≡ lane_or_first lanes lane → q ≡ query_of analyzer prefix k ds
-    → command_by_form analyzer lanes (suggest lane prefix k ds) ≡ suggests l q None
-command_by_form-suggest analyzer lanes lane prefix k ds l q at is = rw (at, is) refl
+    (prefix : List ℕ) (o : QueryOptions) (l : ℕ) (q : PlainQuery)
+    → l ≡ lane_or_first lanes lane → q ≡ query_of analyzer prefix o
+    → command_by_form analyzer lanes (suggest lane prefix o) ≡ suggests l q None
+command_by_form-suggest analyzer lanes lane prefix o l q at is = rw (at, is) refl
 
-pub query_of-key : (analyzer : Analyzer) (prefix : List ℕ) (k : Option Data) (ds : List Data)
-    (key : Keyed) (q : PlainQuery) → key ≡ prefix_key analyzer prefix
+pub query_of-key : (analyzer : Analyzer) (prefix : List ℕ) (o : QueryOptions) (key : Keyed)
+    (q : PlainQuery) → key ≡ prefix_key analyzer prefix
     → q ≡ record {
-      prefix = key_or_none key;
-      contexts = map query_context_of ds;
-      k = unwrap_or (rows_asked k) DEFAULT_K;
+      prefix = key_or_empty key;
+      contexts = map query_context_of o.contexts;
+      k = unwrap_or (rows_asked o.k) DEFAULT_K;
     }
-    → q ≡ query_of analyzer prefix k ds
-query_of-key analyzer prefix k ds key q is make = rw (make, is) refl
+    → q ≡ query_of analyzer prefix o
+query_of-key analyzer prefix o key q is make = rw (make, is) refl

@@ -9,8 +9,8 @@ use Rattle.sg_analysis.specs.declared.analyzer.Analyzer.{Analyzer}
 use Rattle.sg_paths.specs.declared.limits.TheConstants.{MOST_TEXT_BYTES}
 use Rattle.wire_json.specs.Suggested.{Entry, entry_of, entries_in, entries_of, texts_of}
 use Rattle.wire_json.specs.Suggested.{has_wrong_weight, has_reserved_context, has_wrong_contexts}
-use Rattle.wire_json.specs.LineErrors.{Keyed, keyed, input_key, is_empty, is_reserved, is_too_long}
-use Rattle.wire_json.specs.Asked.{is_asked, are_wrong_asked}
+use Rattle.wire_json.specs.LineErrors.{Keyed, keyed_by, input_key, is_refused_as_empty, is_refused_as_reserved, is_refused_as_too_long}
+use Rattle.wire_json.specs.Asked.{is_query_context, query_contexts_are_wrong}
 use Rattle.wire_json.specs.Commands.{suggestion_of}
 use Rattle.wire_json.specs.ReadyForms.{AreKeys, AreSuggestions, IsReady, AreReady, suggestions_by}
 use Rattle.wire_json.specs.declared.keys.KeyFault.TheVariants as faults
@@ -40,7 +40,7 @@ no_entry p (d ∷ ds) none =
       no_entry p ds (or_false_right (p d) _ none),
     ) refl
 
-keyed_text : (text : List ℕ) (analysis : Analysis) (k : List ℕ) → keyed text analysis ≡ Ok k
+keyed_text : (text : List ℕ) (analysis : Analysis) (k : List ℕ) → keyed_by text analysis ≡ Ok k
     → length text ≤ MOST_TEXT_BYTES
 keyed_text text (reserved byte at) k is = grind arith
 keyed_text text empty k is = grind arith
@@ -48,7 +48,7 @@ keyed_text text (too_long bytes) k is = grind arith
 keyed_text text (key j) k is = grind arith
 
 -- a key without a fault is one
-has_key : (r : Keyed) → is_empty r ≡ false → is_reserved r ≡ false → is_too_long r ≡ false
+has_key : (r : Keyed) → is_refused_as_empty r ≡ false → is_refused_as_reserved r ≡ false → is_refused_as_too_long r ≡ false
     → (k : List ℕ) × (r ≡ Ok k)
 has_key (Ok k) e s l = (k, refl)
 has_key (Err faults.Empty) e s l = absurd (grind arith)
@@ -71,9 +71,9 @@ entries_ready : (analyzer : Analyzer) (es : List Entry)
 entries_ready analyzer [] keys filled weights forbidden contexts = tt
 entries_ready analyzer (e ∷ es) keys filled weights forbidden contexts =
     let r = input_key analyzer e.text in
-    let found = has_key r (or_false_left (is_empty r) _ keys.empty)
-    (or_false_left (is_reserved r) _ keys.reserved)
-    (or_false_left (is_too_long r) _ keys.too_long) in
+    let found = has_key r (or_false_left (is_refused_as_empty r) _ keys.empty)
+    (or_false_left (is_refused_as_reserved r) _ keys.reserved)
+    (or_false_left (is_refused_as_too_long r) _ keys.too_long) in
     let first : IsReady e r = record {
       key = found.0;
       is = found.1;
@@ -84,9 +84,9 @@ entries_ready analyzer (e ∷ es) keys filled weights forbidden contexts =
       contexts = or_false_left (has_wrong_contexts e.given) _ contexts;
     } in
     let later : AreKeys (keys_by analyzer es) = record {
-      empty = or_false_right (is_empty r) _ keys.empty;
-      reserved = or_false_right (is_reserved r) _ keys.reserved;
-      too_long = or_false_right (is_too_long r) _ keys.too_long;
+      empty = or_false_right (is_refused_as_empty r) _ keys.empty;
+      reserved = or_false_right (is_refused_as_reserved r) _ keys.reserved;
+      too_long = or_false_right (is_refused_as_too_long r) _ keys.too_long;
     } in (
       first,
       entries_ready analyzer es later (λ k d l. filled (suc k) d (grind (arith, l)))
@@ -121,5 +121,5 @@ not_false true h = refl
 not_false false h = absurd (grind (arith, h))
 
 -- query contexts that aren't wrong are each one
-pub all_asked : (ds : List Data) → are_wrong_asked ds ≡ false → list_all is_asked ds ≡ true
-all_asked ds right = not_false (list_all is_asked ds) (or_false_right _ _ right)
+pub all_query_contexts : (ds : List Data) → query_contexts_are_wrong ds ≡ false → list_all is_query_context ds ≡ true
+all_query_contexts ds right = not_false (list_all is_query_context ds) (or_false_right _ _ right)

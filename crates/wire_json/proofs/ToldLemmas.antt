@@ -12,7 +12,7 @@ use Rattle.serde_json.specs.View.{items_of}
 use Rattle.sg_base.specs.Cuts.{PlainCut}
 use Rattle.wire_json.specs.Rows.{Row}
 use Rattle.wire_json.specs.Replies.{Reply, numbered, rows, opened, closed, built, merged, accepted}
-use Rattle.wire_json.specs.Replies.{failed, name_of, row_data, cut_data, reply_data}
+use Rattle.wire_json.specs.Replies.{failed, error_name, row_data, cut_data, reply_data}
 use Rattle.wire_json.specs.WrittenReplies.{HasByteKey, DataTellTheReply}
 use Rattle.wire_json.specs.declared.errors.ErrorKind.{ErrorKind}
 use Rattle.wire_json.specs.declared.errors.ErrorKind.TheVariants.{Long, Json, Shape, Lane, Id}
@@ -37,24 +37,24 @@ kinds =
     ∷ Full ∷ Views ∷ []
 
 abbrev kind_named : List ℕ → ErrorKind
-kind_named name = unwrap_or (find (λ kind. bytes_eq (name_of kind) name) kinds) Long
+kind_named name = unwrap_or (find (λ kind. bytes_eq (error_name kind) name) kinds) Long
 
-kind_named-name_of : (kind : ErrorKind) → kind_named (name_of kind) ≡ kind
-kind_named-name_of Long = refl
-kind_named-name_of Json = refl
-kind_named-name_of Shape = refl
-kind_named-name_of Lane = refl
-kind_named-name_of Id = refl
-kind_named-name_of Empty = refl
-kind_named-name_of Weight = refl
-kind_named-name_of Reserved = refl
-kind_named-name_of Key = refl
-kind_named-name_of Contexts = refl
-kind_named-name_of Boost = refl
-kind_named-name_of K = refl
-kind_named-name_of View = refl
-kind_named-name_of Full = refl
-kind_named-name_of Views = refl
+kind_named-error_name : (kind : ErrorKind) → kind_named (error_name kind) ≡ kind
+kind_named-error_name Long = refl
+kind_named-error_name Json = refl
+kind_named-error_name Shape = refl
+kind_named-error_name Lane = refl
+kind_named-error_name Id = refl
+kind_named-error_name Empty = refl
+kind_named-error_name Weight = refl
+kind_named-error_name Reserved = refl
+kind_named-error_name Key = refl
+kind_named-error_name Contexts = refl
+kind_named-error_name Boost = refl
+kind_named-error_name K = refl
+kind_named-error_name View = refl
+kind_named-error_name Full = refl
+kind_named-error_name Views = refl
 
 -- the row that an item of `rows` tells
 abbrev row_told : Data → Row
@@ -125,7 +125,7 @@ told-reply_data (closed line view) bytes = refl
 told-reply_data (built line count) bytes = refl
 told-reply_data (merged line count) bytes = refl
 told-reply_data (accepted line count) bytes = refl
-told-reply_data (failed line kind) bytes = ap (failed line) (kind_named-name_of kind)
+told-reply_data (failed line kind) bytes = ap (failed line) (kind_named-error_name kind)
 
 -- so two replies with the same data are one
 pub told_apart : DataTellTheReply

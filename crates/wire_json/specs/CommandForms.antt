@@ -10,6 +10,7 @@ use Rattle.wire_json.specs.declared.commands.Command.{Command}
 use Rattle.wire_json.specs.declared.commands.Command.TheVariants.{Blank, Accept, Suggest, OpenView}
 use Rattle.wire_json.specs.declared.commands.Command.TheVariants.{CloseView, Flush, Merge, Barrier}
 
+-- a command as plain data
 abbrev pub plain_command : Command → plain.Command
 plain_command Blank = plain.blank
 plain_command (Accept lane op) = plain.accepts lane (operation_of op)
@@ -36,7 +37,7 @@ kind_of errors.Boost = Some kinds.Boost
 kind_of errors.K = Some kinds.K
 kind_of errors.Memory = None
 
--- a line is refused for the error that it asks for; want of memory may come at any line
+-- a line is refused with its own error; want of memory may come at any line
 abbrev pub Refuses : plain.Command → LineError → Type 0
 Refuses command error = IfSome (kind_of error) (λ kind. command ≡ plain.refused kind)
 

@@ -6,15 +6,15 @@ use Rattle.std.specs.Str.{is_utf8}
 use Rattle.std.specs.List.{list_all, filter_map}
 use Rattle.std.specs.declared.result.Result.TheVariants.{Ok, Err}
 use Rattle.serde_json.specs.Data.{Data}
-use Rattle.serde_json.specs.Find.{as_str}
 use Rattle.serde_json.specs.Read.{read}
 use Rattle.sg_analysis.specs.declared.analyzer.Analyzer.{Analyzer}
 use Rattle.sg_context.specs.Queries.{PlainQuery}
 use Rattle.sg_context.specs.declared.limits.TheConstants.{DEFAULT_K}
 use Rattle.sg_paths.specs.Documents.{PlainSuggestion, PlainDocument}
 use Rattle.sg_paths.specs.Operations.{Operation, adds, updates, deletes}
-use Rattle.wire_json.specs.Suggested.{Entry, entries_of, weight_of, contexts_of}
-use Rattle.wire_json.specs.Asked.{query_context_of, rows_asked}
+use Rattle.wire_json.specs.Suggested.{Entry, entries_of, weight_of, contexts_given}
+use Rattle.wire_json.specs.Suggested.{context_given}
+use Rattle.wire_json.specs.Asked.{QueryOptions, query_context_of, rows_asked}
 use Rattle.wire_json.specs.Forms.{Form, change, delete, suggest, form_of}
 use Rattle.wire_json.specs.LineErrors.{Keyed, input_key, prefix_key, lane_of, error_of_form}
 use Rattle.wire_json.specs.declared.forms.Change.{Change}
@@ -37,20 +37,21 @@ pub data Command : Type 0 where
   refused : ErrorKind → Command
 
 -- the key of a text that has one
-abbrev pub key_or_none : Keyed → List ℕ
-key_or_none (Ok k) = k
-key_or_none (Err fault) = []
+abbrev pub key_or_empty : Keyed → List ℕ
+key_or_empty (Ok k) = k
+key_or_empty (Err fault) = []
 
--- the suggestion of an entry with its key, of one without an error
+-- the suggestion of an entry with its key, where it has no error
 abbrev pub suggestion_by : Entry → Keyed → PlainSuggestion
 suggestion_by e k =
     record {
       text = e.text;
-      key = key_or_none k;
+      key = key_or_empty k;
       weight = unwrap_or (weight_of e.given) DEFAULT_WEIGHT;
-      contexts = filter_map as_str (contexts_of e.given);
+      contexts = filter_map context_given (contexts_given e.given);
     }
 
+-- the suggestion of an entry, where it has no error
 abbrev pub suggestion_of : Analyzer → Entry → PlainSuggestion
 suggestion_of analyzer e = suggestion_by e (input_key analyzer e.text)
 
@@ -59,20 +60,21 @@ abbrev pub document_of : Analyzer → List ℕ → List Data → PlainDocument
 document_of analyzer id ds =
     record { id = id; suggestions = map (suggestion_of analyzer) (entries_of ds) }
 
+-- the operation that brings a document in
 abbrev pub operation_by : Change → PlainDocument → Operation
 operation_by Add d = adds d
 operation_by Update d = updates d
 
--- the query for a prefix, of one without an error
-abbrev pub query_of : Analyzer → List ℕ → Option Data → List Data → PlainQuery
-query_of analyzer prefix k ds =
+-- the query for a prefix, where it has no error
+abbrev pub query_of : Analyzer → List ℕ → QueryOptions → PlainQuery
+query_of analyzer prefix o =
     record {
-      prefix = key_or_none (prefix_key analyzer prefix);
-      contexts = map query_context_of ds;
-      k = unwrap_or (rows_asked k) DEFAULT_K;
+      prefix = key_or_empty (prefix_key analyzer prefix);
+      contexts = map query_context_of o.contexts;
+      k = unwrap_or (rows_asked o.k) DEFAULT_K;
     }
 
--- the worker of a line, of one without an error
+-- the worker of a line, where it has no error
 abbrev pub lane_or_first : ℕ → Option Data → ℕ
 lane_or_first lanes lane = unwrap_or (lane_of lanes lane) 0
 
@@ -82,8 +84,8 @@ command_by_form analyzer lanes (change how lane id ds) =
     accepts (lane_or_first lanes lane) (operation_by how (document_of analyzer id ds))
 command_by_form analyzer lanes (delete lane id) =
     accepts (lane_or_first lanes lane) (deletes id)
-command_by_form analyzer lanes (suggest lane prefix k ds) =
-    suggests (lane_or_first lanes lane) (query_of analyzer prefix k ds) None
+command_by_form analyzer lanes (suggest lane prefix o) =
+    suggests (lane_or_first lanes lane) (query_of analyzer prefix o) None
 
 -- the error of a form, else what it asks for
 abbrev pub command_of_form : Analyzer → ℕ → Form → Command
@@ -99,7 +101,7 @@ command_of_value analyzer lanes d =
 abbrev pub is_blank_byte : ℕ → Bool
 is_blank_byte b = (b == 32) || ((b == 9) || (b == 13))
 
--- these alone
+-- whether a line has no other byte
 abbrev pub is_blank : List ℕ → Bool
 is_blank = list_all is_blank_byte
 

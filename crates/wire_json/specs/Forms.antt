@@ -7,15 +7,16 @@ use Rattle.serde_json.specs.Data.{Data}
 use Rattle.sg_paths.specs.declared.limits.TheConstants.{MOST_SUGGESTIONS}
 use Rattle.wire_json.specs.Members.{member_of, text_of, listed_at}
 use Rattle.wire_json.specs.Suggested.{is_suggestion, entries_of}
+use Rattle.wire_json.specs.Asked.{QueryOptions}
 use Rattle.wire_json.specs.declared.forms.Change.{Change}
 use Rattle.wire_json.specs.declared.forms.Change.TheVariants.{Add, Update}
 
 -- the worker as it is given, then: the id and the suggestions of a change; the id of a delete; the
--- prefix, the number of rows and the contexts of a query
+-- prefix and the options of a query
 pub data Form : Type 0 where
   change : Change → Option Data → List ℕ → List Data → Form
   delete : Option Data → List ℕ → Form
-  suggest : Option Data → List ℕ → Option Data → List Data → Form
+  suggest : Option Data → List ℕ → QueryOptions → Form
 
 -- the worker as it is given
 abbrev pub lane_given : Data → Option Data
@@ -34,16 +35,20 @@ change_of how d ds =
     then option_map (λ id. change how (lane_given d) id ds) (text_of (codes "id") d)
     else None
 
+-- a delete of an id
 abbrev pub delete_of : Data → Option Form
 delete_of d = option_map (λ id. delete (lane_given d) id) (text_of (codes "id") d)
 
--- a query without a view, which isn't read yet
+-- the options of a query
+abbrev pub options_of : Data → QueryOptions
+options_of d =
+    record { k = member_of (codes "k") d; contexts = listed_at (codes "contexts") d }
+
+-- a query; one in a view isn't read yet
 abbrev pub suggest_of : Data → Option Form
 suggest_of d =
     if is_none (member_of (codes "view") d)
-    then option_map
-    (λ p. suggest (lane_given d) p (member_of (codes "k") d) (listed_at (codes "contexts") d))
-    (text_of (codes "prefix") d)
+    then option_map (λ p. suggest (lane_given d) p (options_of d)) (text_of (codes "prefix") d)
     else None
 
 -- the form by the word of a line

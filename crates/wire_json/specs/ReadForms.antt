@@ -1,8 +1,12 @@
 -- The code's forms, which borrow from a line's value, as plain data, and what the code knows of a
--- form without an error. No public clause cites it.
-use Rattle.std.specs.Prelude.{◌≡◌, true, map, option_map, ⊤}
+-- form without an error. No public clause cites it. Source: this project's own.
+use Rattle.std.specs.Prelude.{◌≡◌, true, ℕ, List, [], map, Option, Some, None, option_map, ⊤}
+use Rattle.std.specs.Borrow.{Bor}
 use Rattle.serde_json.specs.View.{view}
+use Rattle.serde_json.specs.declared.value.Value.{Value}
 use Rattle.wire_json.specs.Suggested.{entries_of}
+use Rattle.wire_json.specs.Asked.{QueryOptions}
+use Rattle.wire_json.specs.LineErrors.{Used}
 use Rattle.wire_json.specs.Forms as plain
 use Rattle.wire_json.specs.EntryForms.{plain_entry}
 use Rattle.wire_json.specs.declared.forms.GivenChange.{GivenChange}
@@ -10,16 +14,24 @@ use Rattle.wire_json.specs.declared.forms.GivenQuery.{GivenQuery}
 use Rattle.wire_json.specs.declared.forms.Form.{Form}
 use Rattle.wire_json.specs.declared.forms.Form.TheVariants.{Change, Delete, Suggest}
 
+-- a change as plain data
 abbrev pub plain_change : GivenChange → plain.Form
 plain_change given =
     plain.change given.how (option_map (λ v. view v.now) given.lane) given.id.now
     (map view given.suggestions.now)
 
+-- the options of a query as plain data
+abbrev pub plain_options : Option (Bor Value) → List Value → QueryOptions
+plain_options k contexts =
+    record { k = option_map (λ v. view v.now) k; contexts = map view contexts }
+
+-- a query as plain data
 abbrev pub plain_query : GivenQuery → plain.Form
 plain_query given =
     plain.suggest (option_map (λ v. view v.now) given.lane) given.prefix.now
-    (option_map (λ v. view v.now) given.k) (map view given.contexts.now)
+    (plain_options given.k given.contexts.now)
 
+-- a form as plain data
 abbrev pub plain_form : Form → plain.Form
 plain_form (Change given) = plain_change given
 plain_form (Delete lane id) = plain.delete (option_map (λ v. view v.now) lane) id.now
@@ -30,7 +42,36 @@ pub record EntriesFit (given : GivenChange) : Type 0 where
   pub are : map plain_entry given.entries.items ≡ entries_of (map view given.suggestions.now)
   pub document : plain.make_a_document (map view given.suggestions.now) ≡ true
 
+-- where it is a change, its entries fit
 abbrev pub HasItsEntries : Form → Type 0
 HasItsEntries (Change given) = EntriesFit given
 HasItsEntries (Delete lane id) = ⊤
 HasItsEntries (Suggest given) = ⊤
+
+-- what each form uses of its line, by the code's values
+abbrev pub used_by_change : Option (Bor Value) → List ℕ → List Value → Used
+used_by_change lane id suggestions =
+    record {
+      lane = option_map (λ v. view v.now) lane;
+      id = Some id;
+      suggestions = map view suggestions;
+      options = None;
+    }
+
+abbrev pub used_by_delete : Option (Bor Value) → List ℕ → Used
+used_by_delete lane id =
+    record {
+      lane = option_map (λ v. view v.now) lane;
+      id = Some id;
+      suggestions = [];
+      options = None;
+    }
+
+abbrev pub used_by_query : Option (Bor Value) → Option (Bor Value) → List Value → Used
+used_by_query lane k contexts =
+    record {
+      lane = option_map (λ v. view v.now) lane;
+      id = None;
+      suggestions = [];
+      options = Some (plain_options k contexts);
+    }

@@ -1,5 +1,5 @@
 -- What the code knows of a line without an error when it builds the command. No public clause cites
--- it.
+-- it. Source: this project's own.
 use Rattle.std.specs.Prelude.{◌≡◌, ◌<◌, ◌≤◌, ℕ, false, List, [], ◌∷◌, length}
 use Rattle.std.specs.Prelude.{⊤}
 use Rattle.std.specs.List.{list_any}
@@ -9,15 +9,15 @@ use Rattle.sg_paths.specs.Documents.{PlainSuggestion}
 use Rattle.sg_paths.specs.declared.limits.TheConstants.{MOST_TEXT_BYTES}
 use Rattle.wire_json.specs.Suggested.{Entry, has_wrong_weight, has_reserved_context}
 use Rattle.wire_json.specs.Suggested.{has_wrong_contexts}
-use Rattle.wire_json.specs.Asked.{is_reserved_asked, are_wrong_asked, has_wrong_boost}
-use Rattle.wire_json.specs.LineErrors.{Keyed, is_empty, is_reserved, is_too_long}
+use Rattle.wire_json.specs.Asked.{asks_for_reserved_context, query_contexts_are_wrong, has_wrong_boost}
+use Rattle.wire_json.specs.LineErrors.{Keyed, is_refused_as_empty, is_refused_as_reserved, is_refused_as_too_long}
 use Rattle.wire_json.specs.Commands.{suggestion_by}
 
 -- the keys of texts have no fault
 pub record AreKeys (keys : List Keyed) : Type 0 where
-  pub empty : list_any is_empty keys ≡ false
-  pub reserved : list_any is_reserved keys ≡ false
-  pub too_long : list_any is_too_long keys ≡ false
+  pub empty : list_any is_refused_as_empty keys ≡ false
+  pub reserved : list_any is_refused_as_reserved keys ≡ false
+  pub too_long : list_any is_refused_as_too_long keys ≡ false
 
 -- the suggestions of a line have no error but for their keys
 pub record AreSuggestions (ds : List Data) : Type 0 where
@@ -27,8 +27,8 @@ pub record AreSuggestions (ds : List Data) : Type 0 where
 
 -- the query contexts of a line have no error
 pub record AreAsked (ds : List Data) : Type 0 where
-  pub reserved : list_any is_reserved_asked ds ≡ false
-  pub contexts : are_wrong_asked ds ≡ false
+  pub reserved : list_any asks_for_reserved_context ds ≡ false
+  pub contexts : query_contexts_are_wrong ds ≡ false
   pub boosts : list_any has_wrong_boost ds ≡ false
 
 -- an entry with its key makes a suggestion

@@ -22,35 +22,38 @@ pub data Reply : Type 0 where
   rows : ℕ → ℕ → List Row → Option PlainCut → Reply
   -- a view's name, and over how many operations it is
   opened : ℕ → List ℕ → ℕ → Reply
+  -- a view's name
   closed : ℕ → List ℕ → Reply
-  -- how many segments were built, pieces merged, operations accepted
+  -- how many segments were built, segments merged, operations accepted
   built : ℕ → ℕ → Reply
   merged : ℕ → ℕ → Reply
   accepted : ℕ → ℕ → Reply
+  -- an error
   failed : ℕ → ErrorKind → Reply
 
 -- the name of an error as it is printed
-abbrev pub name_of : ErrorKind → List ℕ
-name_of Long = codes "long"
-name_of Json = codes "json"
-name_of Shape = codes "shape"
-name_of Lane = codes "lane"
-name_of Id = codes "id"
-name_of Empty = codes "empty"
-name_of Weight = codes "weight"
-name_of Reserved = codes "reserved"
-name_of Key = codes "key"
-name_of Contexts = codes "contexts"
-name_of Boost = codes "boost"
-name_of K = codes "k"
-name_of View = codes "view"
-name_of Full = codes "full"
-name_of Views = codes "views"
+abbrev pub error_name : ErrorKind → List ℕ
+error_name Long = codes "long"
+error_name Json = codes "json"
+error_name Shape = codes "shape"
+error_name Lane = codes "lane"
+error_name Id = codes "id"
+error_name Empty = codes "empty"
+error_name Weight = codes "weight"
+error_name Reserved = codes "reserved"
+error_name Key = codes "key"
+error_name Contexts = codes "contexts"
+error_name Boost = codes "boost"
+error_name K = codes "k"
+error_name View = codes "view"
+error_name Full = codes "full"
+error_name Views = codes "views"
 
 -- a whole number
 abbrev whole : ℕ → Data
 whole n = number (unsigned n)
 
+-- a row, by the names of its members
 abbrev pub row_data : Row → Data
 row_data r =
     object (
@@ -68,11 +71,12 @@ cut_data c =
     member (codes "score") (whole c.score) (
     member (codes "segment") (whole c.generation) no_members))))
 
--- a number under a name that stands behind `line`, and one under a name before it
+-- a number under a name that stands behind `line`
 abbrev pub counted_behind : List ℕ → ℕ → ℕ → Data
 counted_behind name line n =
     object (member (codes "line") (whole line) (member name (whole n) no_members))
 
+-- a number under a name that stands before `line`
 abbrev pub counted_before : List ℕ → ℕ → ℕ → Data
 counted_before name line n =
     object (member name (whole n) (member (codes "line") (whole line) no_members))
@@ -82,6 +86,7 @@ abbrev pub named_before : List ℕ → ℕ → List ℕ → Data
 named_before name line text =
     object (member name (string text) (member (codes "line") (whole line) no_members))
 
+-- a view that was opened
 abbrev pub opened_data : ℕ → List ℕ → ℕ → Data
 opened_data line view upto =
     object (
@@ -118,11 +123,12 @@ reply_data (closed line view) = named_before (codes "closed") line view
 reply_data (built line count) = counted_before (codes "built") line count
 reply_data (merged line count) = counted_behind (codes "merged") line count
 reply_data (accepted line count) = counted_before (codes "accepted") line count
-reply_data (failed line kind) = named_before (codes "error") line (name_of kind)
+reply_data (failed line kind) = named_before (codes "error") line (error_name kind)
 
 -- a value as a line: its compact text and a line feed
 abbrev pub line_text : Data → List ℕ
 line_text d = compact_text d ++ 10 ∷ []
 
+-- the bytes of a reply
 abbrev pub reply_text : Reply → List ℕ
 reply_text r = line_text (reply_data r)

@@ -1,9 +1,10 @@
--- The code's replies as plain data.
+-- The code's replies as plain data. Source: this project's own.
 use Rattle.wire_json.specs.Replies as plain
 use Rattle.wire_json.specs.declared.replies.Reply.{Reply}
 use Rattle.wire_json.specs.declared.replies.Reply.TheVariants.{Seq, Rows, Opened, Closed, Built}
 use Rattle.wire_json.specs.declared.replies.Reply.TheVariants.{Merged, Accepted, Error}
 
+-- a reply as plain data
 abbrev pub plain_reply : Reply → plain.Reply
 plain_reply (Seq line seq) = plain.numbered line seq
 plain_reply (Rows line upto rows cut) = plain.rows line upto rows.items cut

@@ -72,40 +72,44 @@ weight_given d =
     option_and_then weight_upto
     (option_or (whole_of d) (option_and_then number_of_digits (as_str d)))
 
--- the weight of a suggestion, if it is one; 1 where none is given
+-- the weight of a suggestion, where it is within its limits; 1 where it is absent
 abbrev pub weight_of : Data → Option ℕ
 weight_of d = option_map_or weight_given (member_of (codes "weight") d) (Some DEFAULT_WEIGHT)
 
 -- the contexts of a suggestion as they are given
-abbrev pub contexts_of : Data → List Data
-contexts_of = listed_at (codes "contexts")
+abbrev pub contexts_given : Data → List Data
+contexts_given = listed_at (codes "contexts")
+
+-- the text of a context of a suggestion
+abbrev pub context_given : Data → Option (List ℕ)
+context_given d = as_str d
 
 -- whether a byte of a text is reserved
 abbrev pub has_reserved_byte : List ℕ → Bool
 has_reserved_byte t = is_some (position_from is_reserved 0 t)
 
--- whether a text has at most 63 bytes
-abbrev pub fits_a_context : List ℕ → Bool
-fits_a_context t = nat_le (length t) MOST_CONTEXT_BYTES
+-- whether a text has at most the 63 bytes of a context
+abbrev pub has_context_length : List ℕ → Bool
+has_context_length t = nat_le (length t) MOST_CONTEXT_BYTES
 
 -- whether a text that stands as a context has a reserved byte
 abbrev pub is_reserved_context : Data → Bool
-is_reserved_context d = option_map_or has_reserved_byte (as_str d) false
+is_reserved_context d = option_map_or has_reserved_byte (context_given d) false
 
 -- whether it is a text of a context's length
 abbrev pub is_context_text : Data → Bool
-is_context_text d = option_map_or fits_a_context (as_str d) false
+is_context_text d = option_map_or has_context_length (context_given d) false
 
--- whether a suggestion's weight is none
+-- whether the weight that is given is out of its limits or of a wrong kind
 abbrev pub has_wrong_weight : Data → Bool
 has_wrong_weight d = is_none (weight_of d)
 
 -- whether a context of a suggestion has a reserved byte
 abbrev pub has_reserved_context : Data → Bool
-has_reserved_context d = list_any is_reserved_context (contexts_of d)
+has_reserved_context d = list_any is_reserved_context (contexts_given d)
 
 -- whether a suggestion has over 16 contexts, or one that is no text or has over 63 bytes
 abbrev pub has_wrong_contexts : Data → Bool
 has_wrong_contexts d =
-    nat_lt MOST_CONTEXTS (length (contexts_of d))
-    || not (list_all is_context_text (contexts_of d))
+    nat_lt MOST_CONTEXTS (length (contexts_given d))
+    || not (list_all is_context_text (contexts_given d))

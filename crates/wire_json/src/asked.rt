@@ -5,12 +5,12 @@ ghost use Rattle.serde_json.specs.View.{view};
 ghost use Rattle.sg_base.specs.declared.limits.TheConstants.{MOST_BOOST};
 ghost use Rattle.sg_context.specs.Boosts.{IsBoost};
 ghost use Rattle.sg_context.specs.Queries.{IsRowCount};
-ghost use Rattle.wire_json.specs.Asked.{whole_within, context_asked, prefix_asked, boost_asked};
-ghost use Rattle.wire_json.specs.Asked.{rows_asked, is_reserved_asked, is_asked, are_wrong_asked};
+ghost use Rattle.wire_json.specs.Asked.{whole_within, context_asked, prefix_flag, boost_asked};
+ghost use Rattle.wire_json.specs.Asked.{rows_asked, asks_for_reserved_context, is_query_context, query_contexts_are_wrong};
 ghost use Rattle.wire_json.specs.Asked.{has_wrong_boost};
 
 use crate::members::{member, text, whole};
-use crate::suggested::{fits_a_context, has_reserved_byte};
+use crate::suggested::{has_context_length, has_reserved_byte};
 use serde_json::Value;
 use sg_base::MOST_BOOST;
 use sg_context::{
@@ -44,9 +44,9 @@ pub fn context_asked(value: &Value) -> Option<&str>
     }
 }
 
-/// Whether contexts that begin with it are asked for too, if the member is true or false.
-pub fn prefix_asked(value: &Value) -> Option<bool>
-    ensures { result ≡ prefix_asked (view value.now) }
+/// Whether contexts that begin with it are asked for too, where the member is true or false.
+pub fn prefix_flag(value: &Value) -> Option<bool>
+    ensures { result ≡ prefix_flag (view value.now) }
 {
     match member(value, "prefix") {
         Some(given) => given.as_bool(),
@@ -54,7 +54,7 @@ pub fn prefix_asked(value: &Value) -> Option<bool>
     }
 }
 
-/// The boost, if it is one; `DEFAULT_BOOST` where none is given.
+/// The boost, where it is within its limits; `DEFAULT_BOOST` where it is absent.
 pub fn boost_asked(value: &Value) -> Option<Boost>
     ensures value { result ≡ boost_asked (view value.now) }
     ensures limits { IfSome result IsBoost }
@@ -65,7 +65,7 @@ pub fn boost_asked(value: &Value) -> Option<Boost>
     }
 }
 
-/// The number of rows, if it is one; `DEFAULT_K` where none is given.
+/// The number of rows, where it is within its limits; `DEFAULT_K` where it is absent.
 pub fn rows_asked(k: Option<&Value>) -> Option<u32>
     ensures value { result ≡ rows_asked (option_map (λ v. view v.now) k.entry) }
     ensures limits { IfSome result IsRowCount }
@@ -76,8 +76,8 @@ pub fn rows_asked(k: Option<&Value>) -> Option<u32>
     }
 }
 
-fn is_reserved_asked(value: &Value) -> bool
-    ensures { result ≡ is_reserved_asked (view value.now) }
+fn asks_for_reserved_context(value: &Value) -> bool
+    ensures { result ≡ asks_for_reserved_context (view value.now) }
 {
     match context_asked(value) {
         Some(text) => has_reserved_byte(text),
@@ -85,11 +85,11 @@ fn is_reserved_asked(value: &Value) -> bool
     }
 }
 
-fn is_asked(value: &Value) -> bool
-    ensures { result ≡ is_asked (view value.now) }
+fn is_query_context(value: &Value) -> bool
+    ensures { result ≡ is_query_context (view value.now) }
 {
     match context_asked(value) {
-        Some(text) => fits_a_context(text) && prefix_asked(value).is_some(),
+        Some(text) => has_context_length(text) && prefix_flag(value).is_some(),
         None => false,
     }
 }
@@ -100,27 +100,27 @@ fn has_wrong_boost(value: &Value) -> bool
     boost_asked(value).is_none()
 }
 
-fn all_are_asked(values: &[Value]) -> bool
-    ensures { result ≡ list_all is_asked (map view values.now) }
+fn all_are_query_contexts(values: &[Value]) -> bool
+    ensures { result ≡ list_all is_query_context (map view values.now) }
 {
-    values.iter().all(|value| is_asked(value))
+    values.iter().all(|value| is_query_context(value))
 }
 
 /// Whether one of the contexts that are asked for has a reserved byte.
-pub fn any_is_reserved_asked(values: &[Value]) -> bool
-    ensures { result ≡ list_any is_reserved_asked (map view values.now) }
+pub fn any_asks_for_reserved_context(values: &[Value]) -> bool
+    ensures { result ≡ list_any asks_for_reserved_context (map view values.now) }
 {
-    values.iter().any(|value| is_reserved_asked(value))
+    values.iter().any(|value| asks_for_reserved_context(value))
 }
 
-/// Whether there are too many, or one is none but for its boost.
-pub fn are_wrong_asked(values: &[Value]) -> bool
-    ensures { result ≡ are_wrong_asked (map view values.now) }
+/// Whether there are too many, or one is of a wrong kind or too long.
+pub fn query_contexts_are_wrong(values: &[Value]) -> bool
+    ensures { result ≡ query_contexts_are_wrong (map view values.now) }
 {
-    values.len() > MOST_QUERY_CONTEXTS || !all_are_asked(values)
+    values.len() > MOST_QUERY_CONTEXTS || !all_are_query_contexts(values)
 }
 
-/// Whether the boost of one of them is none.
+/// Whether the boost of one of them is out of its limits or of a wrong kind.
 pub fn any_has_wrong_boost(values: &[Value]) -> bool
     ensures { result ≡ list_any has_wrong_boost (map view values.now) }
 {

@@ -4,21 +4,20 @@ ghost use Rattle.std.specs.Prelude.{Some, [], ◌∷◌, is_none, option_map, un
 ghost use Rattle.sg_base.specs.declared.limits.TheConstants.{MOST_WEIGHT};
 ghost use Rattle.std.specs.List.{filter_map, list_any, list_all};
 ghost use Rattle.serde_json.specs.View.{view};
-ghost use Rattle.serde_json.specs.Find.{as_str};
 ghost use Rattle.sg_paths.specs.Documents.{is_id};
 ghost use Rattle.sg_paths.specs.Operations.{operation_of};
 ghost use Rattle.sg_paths.specs.declared.limits.TheConstants.{MOST_TEXT_BYTES, MOST_CONTEXTS};
 ghost use Rattle.sg_paths.specs.declared.limits.TheConstants.{MOST_SUGGESTIONS};
 ghost use Rattle.wire_json.specs.Suggested.{is_reserved_context, is_context_text};
 ghost use Rattle.sg_context.specs.declared.limits.TheConstants.{DEFAULT_K};
-ghost use Rattle.wire_json.specs.Suggested.{fits_a_context, has_reserved_byte};
-ghost use Rattle.wire_json.specs.Asked.{is_asked, is_reserved_asked, has_wrong_boost, rows_asked};
+ghost use Rattle.wire_json.specs.Suggested.{has_context_length, has_reserved_byte, context_given};
+ghost use Rattle.wire_json.specs.Asked.{is_query_context, asks_for_reserved_context, has_wrong_boost, rows_asked};
 ghost use Rattle.wire_json.specs.Asked.{query_context_of};
-ghost use Rattle.wire_json.specs.Commands.{suggestion_by, operation_by, key_or_none};
+ghost use Rattle.wire_json.specs.Commands.{suggestion_by, operation_by, key_or_empty};
 ghost use Rattle.wire_json.specs.EntryForms.{plain_entry};
 ghost use Rattle.wire_json.specs.ReadyForms.{IsReady, AreReady, AreKeys, AreAsked, suggestions_by};
 
-use crate::asked::{boost_asked, context_asked, prefix_asked, rows_asked};
+use crate::asked::{boost_asked, context_asked, prefix_flag, rows_asked};
 use crate::forms::Change;
 use crate::keys::Keyed;
 use crate::suggested::{Entry, contexts, weight};
@@ -30,7 +29,7 @@ use std::alloc::{AllocError, Global};
 
 // The context of a text that is one.
 fn context_of(alloc: Global, text: &str) -> Result<Context, AllocError>
-    requires fits { fits_a_context text.now ≡ true }
+    requires fits { has_context_length text.now ≡ true }
     requires not_reserved { has_reserved_byte text.now ≡ false }
     ensures { IfOk result (λ c. c ≡ text.now) }
 {
@@ -45,7 +44,7 @@ fn context_of(alloc: Global, text: &str) -> Result<Context, AllocError>
 fn context(alloc: Global, given: &Value) -> Result<Context, AllocError>
     requires fits { is_context_text (view given.now) ≡ true }
     requires not_reserved { is_reserved_context (view given.now) ≡ false }
-    ensures { IfOk result (λ c. as_str (view given.now) ≡ Some c) }
+    ensures { IfOk result (λ c. context_given (view given.now) ≡ Some c) }
 {
     let Some(text) = given.as_str() else {
         unreachable!();
@@ -57,7 +56,7 @@ fn context(alloc: Global, given: &Value) -> Result<Context, AllocError>
 fn contexts_of(alloc: Global, given: &[Value]) -> Result<Vec<Context>, AllocError>
     requires fit { list_all is_context_text (map view given.now) ≡ true }
     requires not_reserved { list_any is_reserved_context (map view given.now) ≡ false }
-    ensures value { IfOk result (λ cs. cs.items ≡ filter_map as_str (map view given.now)) }
+    ensures value { IfOk result (λ cs. cs.items ≡ filter_map context_given (map view given.now)) }
     ensures count { IfOk result (λ cs. length cs.items ≡ length given.now) }
 {
     let mut contexts = Vec::with_capacity(alloc, given.len())?;
@@ -166,8 +165,8 @@ pub fn operation(how: Change, document: Document) -> Op
 
 // A query context without an error.
 fn query_context(alloc: Global, value: &Value) -> Result<QueryContext, AllocError>
-    requires asked { is_asked (view value.now) ≡ true }
-    requires not_reserved { is_reserved_asked (view value.now) ≡ false }
+    requires asked { is_query_context (view value.now) ≡ true }
+    requires not_reserved { asks_for_reserved_context (view value.now) ≡ false }
     requires boost { has_wrong_boost (view value.now) ≡ false }
     ensures { IfOk result (λ q. q ≡ query_context_of (view value.now)) }
 {
@@ -177,7 +176,7 @@ fn query_context(alloc: Global, value: &Value) -> Result<QueryContext, AllocErro
     let Some(boost) = boost_asked(value) else {
         unreachable!();
     };
-    let Some(prefix) = prefix_asked(value) else {
+    let Some(prefix) = prefix_flag(value) else {
         unreachable!();
     };
     let context = context_of(alloc, text)?;
@@ -209,7 +208,7 @@ pub fn query(
     requires contexts { AreAsked (map view contexts.now) }
     requires rows { is_none (rows_asked (option_map (λ v. view v.now) k)) ≡ false }
     ensures { IfOk result (λ q. q ≡ record {
-      prefix = key_or_none key;
+      prefix = key_or_empty key;
       contexts = map query_context_of (map view contexts.now);
       k = unwrap_or (rows_asked (option_map (λ v. view v.now) k.entry)) DEFAULT_K;
     }) }

@@ -1,17 +1,18 @@
 //! The errors of a line that has a form, the first that applies.
 ghost use Rattle.std.specs.Prelude.{◌≡◌, false, true, is_none, None, IfErr, OnOk, map, option_map};
-ghost use Rattle.std.specs.Prelude.{List, [], ◌∷◌, ℕ};
+ghost use Rattle.std.specs.Prelude.{[], ◌∷◌};
 ghost use Rattle.serde_json.specs.View.{view};
 ghost use Rattle.sg_paths.specs.Documents.{is_id};
 ghost use Rattle.wire_json.specs.Asked.{rows_asked};
 ghost use Rattle.wire_json.specs.LineErrors.{lane_of, errors_by, first_that_applies};
-ghost use Rattle.wire_json.specs.Forms as plain;
 ghost use Rattle.wire_json.specs.Commands.{lane_or_first};
 ghost use Rattle.wire_json.specs.CommandForms.{kind_of};
+ghost use Rattle.wire_json.specs.ReadForms.{used_by_change, used_by_delete, used_by_query};
 ghost use Rattle.wire_json.specs.ReadyForms.{AreKeys, AreSuggestions, AreAsked};
-ghost use Rattle.wire_json.specs.declared.forms.Change.{Change};
 
-use crate::asked::{any_has_wrong_boost, any_is_reserved_asked, are_wrong_asked, rows_asked};
+use crate::asked::{
+    any_asks_for_reserved_context, any_has_wrong_boost, query_contexts_are_wrong, rows_asked,
+};
 use crate::errors::LineError;
 use crate::keys::{Keyed, any_is_empty, any_is_reserved, any_is_too_long};
 use crate::members::whole;
@@ -57,12 +58,10 @@ pub fn check_change(
     suggestions: &[Value],
     keys: &[Keyed],
 ) -> Result<(), LineError>
-    ensures ok { OnOk result ((how : Change) → first_that_applies (errors_by lanes
-        (plain.change how (option_map (λ v. view v.now) lane.entry) id.now
-        (map view suggestions.now)) keys.now) ≡ None) }
-    ensures refused { IfErr result (λ e. (how : Change) → first_that_applies (errors_by lanes
-        (plain.change how (option_map (λ v. view v.now) lane.entry) id.now
-        (map view suggestions.now)) keys.now) ≡ kind_of e) }
+    ensures ok { OnOk result (first_that_applies (errors_by lanes
+        (used_by_change lane.entry id.now suggestions.now) keys.now) ≡ None) }
+    ensures refused { IfErr result (λ e. first_that_applies (errors_by lanes
+        (used_by_change lane.entry id.now suggestions.now) keys.now) ≡ kind_of e) }
     ensures id { OnOk result (is_id id.now ≡ true) }
     ensures keys { OnOk result (AreKeys keys.now) }
     ensures suggestions { OnOk result (AreSuggestions (map view suggestions.now)) }
@@ -94,9 +93,9 @@ pub fn check_change(
 /// A delete.
 pub fn check_delete(lanes: u32, lane: Option<&Value>, id: &str) -> Result<(), LineError>
     ensures ok { OnOk result (first_that_applies (errors_by lanes
-        (plain.delete (option_map (λ v. view v.now) lane.entry) id.now) []) ≡ None) }
+        (used_by_delete lane.entry id.now) []) ≡ None) }
     ensures refused { IfErr result (λ e. first_that_applies (errors_by lanes
-        (plain.delete (option_map (λ v. view v.now) lane.entry) id.now) []) ≡ kind_of e) }
+        (used_by_delete lane.entry id.now) []) ≡ kind_of e) }
 {
     if lane_of(lanes, lane).is_none() {
         return Err(LineError::Lane);
@@ -115,13 +114,10 @@ pub fn check_suggest(
     contexts: &[Value],
     key: &Keyed,
 ) -> Result<(), LineError>
-    ensures ok { OnOk result ((prefix : List ℕ) → first_that_applies (errors_by lanes
-        (plain.suggest (option_map (λ v. view v.now) lane.entry) prefix
-        (option_map (λ v. view v.now) k.entry) (map view contexts.now)) (key.now ∷ [])) ≡ None) }
-    ensures refused { IfErr result (λ e. (prefix : List ℕ) → first_that_applies (errors_by lanes
-        (plain.suggest (option_map (λ v. view v.now) lane.entry) prefix
-        (option_map (λ v. view v.now) k.entry) (map view contexts.now)) (key.now ∷ []))
-        ≡ kind_of e) }
+    ensures ok { OnOk result (first_that_applies (errors_by lanes
+        (used_by_query lane.entry k.entry contexts.now) (key.now ∷ [])) ≡ None) }
+    ensures refused { IfErr result (λ e. first_that_applies (errors_by lanes
+        (used_by_query lane.entry k.entry contexts.now) (key.now ∷ [])) ≡ kind_of e) }
     ensures key { OnOk result (AreKeys (key.now ∷ [])) }
     ensures contexts { OnOk result (AreAsked (map view contexts.now)) }
     ensures rows { OnOk result (is_none (rows_asked (option_map (λ v. view v.now) k.entry))
@@ -134,13 +130,13 @@ pub fn check_suggest(
     if any_is_empty(only) {
         return Err(LineError::Empty);
     }
-    if any_is_reserved(only) || any_is_reserved_asked(contexts) {
+    if any_is_reserved(only) || any_asks_for_reserved_context(contexts) {
         return Err(LineError::Reserved);
     }
     if any_is_too_long(only) {
         return Err(LineError::Key);
     }
-    if are_wrong_asked(contexts) {
+    if query_contexts_are_wrong(contexts) {
         return Err(LineError::Contexts);
     }
     if any_has_wrong_boost(contexts) {

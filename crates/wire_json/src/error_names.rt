@@ -1,12 +1,12 @@
 //! The names of errors in replies.
 ghost use Rattle.std.specs.Prelude.{◌≡◌};
-ghost use Rattle.wire_json.specs.Replies.{name_of};
+ghost use Rattle.wire_json.specs.Replies.{error_name as printed_name};
 
 use crate::errors::ErrorKind;
 
 /// The error's name in a reply.
 pub fn error_name(error: ErrorKind) -> &'static str
-    ensures { result.now ≡ name_of error }
+    ensures { result.now ≡ printed_name error }
 {
     match error {
         ErrorKind::Long => "long",

@@ -29,7 +29,8 @@ pub enum ErrorKind {
     Reserved,
     /// A text of more than 1,024 bytes, or a key of more than 255.
     Key,
-    /// Too many contexts, or one that is too long or none.
+    /// Too many contexts, one that is too long or of a wrong kind, or a prefix flag that is neither
+    /// true nor false.
     Contexts,
     /// A boost out of range, or that is no whole number.
     Boost,

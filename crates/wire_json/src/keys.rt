@@ -4,8 +4,8 @@ ghost use Rattle.wire_json.specs.declared.keys.KeyFault.TheVariants.{TooLong};
 ghost use Rattle.std.specs.List.{list_any};
 ghost use Rattle.sg_analysis.specs.Analysis.{analysis_of};
 ghost use Rattle.sg_paths.specs.declared.limits.TheConstants.{MOST_TEXT_BYTES};
-ghost use Rattle.wire_json.specs.LineErrors.{keyed, input_key, prefix_key, is_empty, is_reserved};
-ghost use Rattle.wire_json.specs.LineErrors.{is_too_long};
+ghost use Rattle.wire_json.specs.LineErrors.{keyed_by, input_key, prefix_key, is_refused_as_empty, is_refused_as_reserved};
+ghost use Rattle.wire_json.specs.LineErrors.{is_refused_as_too_long};
 ghost use Rattle.wire_json.specs.EntryForms.{plain_entry};
 
 use crate::suggested::Entry;
@@ -40,7 +40,7 @@ fn unless_long(text: &str, key: Key) -> Keyed
 }
 
 fn keyed(alloc: Global, analyzer: &Analyzer, text: &str, cut: bool) -> Result<Keyed, AllocError>
-    ensures value { IfOk result (λ r. r ≡ keyed text.now (analysis_of analyzer.now text.now cut)) }
+    ensures value { IfOk result (λ r. r ≡ keyed_by text.now (analysis_of analyzer.now text.now cut)) }
     ensures filled { IfOk result (λ r. IsTrue cut → IfOk r (λ k. 0 < length k)) }
 {
     match analyzer.key(alloc, text, cut) {
@@ -83,38 +83,38 @@ pub fn input_keys(
     Ok(keys)
 }
 
-fn is_empty(key: &Keyed) -> bool
-    ensures { result ≡ is_empty key.now }
+fn is_refused_as_empty(key: &Keyed) -> bool
+    ensures { result ≡ is_refused_as_empty key.now }
 {
     matches!(key, Err(KeyFault::Empty))
 }
 
-fn is_reserved(key: &Keyed) -> bool
-    ensures { result ≡ is_reserved key.now }
+fn is_refused_as_reserved(key: &Keyed) -> bool
+    ensures { result ≡ is_refused_as_reserved key.now }
 {
     matches!(key, Err(KeyFault::Reserved))
 }
 
-fn is_too_long(key: &Keyed) -> bool
-    ensures { result ≡ is_too_long key.now }
+fn is_refused_as_too_long(key: &Keyed) -> bool
+    ensures { result ≡ is_refused_as_too_long key.now }
 {
     matches!(key, Err(KeyFault::TooLong))
 }
 
 pub fn any_is_empty(keys: &[Keyed]) -> bool
-    ensures { result ≡ list_any is_empty keys.now }
+    ensures { result ≡ list_any is_refused_as_empty keys.now }
 {
-    keys.iter().any(|key| is_empty(key))
+    keys.iter().any(|key| is_refused_as_empty(key))
 }
 
 pub fn any_is_reserved(keys: &[Keyed]) -> bool
-    ensures { result ≡ list_any is_reserved keys.now }
+    ensures { result ≡ list_any is_refused_as_reserved keys.now }
 {
-    keys.iter().any(|key| is_reserved(key))
+    keys.iter().any(|key| is_refused_as_reserved(key))
 }
 
 pub fn any_is_too_long(keys: &[Keyed]) -> bool
-    ensures { result ≡ list_any is_too_long keys.now }
+    ensures { result ≡ list_any is_refused_as_too_long keys.now }
 {
-    keys.iter().any(|key| is_too_long(key))
+    keys.iter().any(|key| is_refused_as_too_long(key))
 }

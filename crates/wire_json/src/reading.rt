@@ -166,8 +166,8 @@ fn is_a_blank(line: &[u8]) -> bool
     line.iter().all(|byte| is_blank_at(*byte))
 }
 
-/// What a line asks for, without its line feed, where there are `lanes` workers. Parses the line
-/// once and analyses each of its texts once: time and memory are linear in the line.
+/// What a line asks for, without its line feed, where there are `lanes` workers. Reads the line once
+/// and analyses each of its texts once. The errors in order: those of `LineError`.
 pub fn command(
     alloc: Global,
     line: &[u8],

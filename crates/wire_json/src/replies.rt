@@ -52,7 +52,7 @@ pub enum Reply {
         line: u64,
         count: u32,
     },
-    /// How many pieces a merge took; 0 where none was due.
+    /// How many segments a merge took; 0 where none was due.
     Merged {
         line: u64,
         count: u32,

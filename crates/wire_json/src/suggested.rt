@@ -8,7 +8,7 @@ ghost use Rattle.sg_base.specs.declared.limits.TheConstants.{MOST_WEIGHT};
 ghost use Rattle.wire_json.specs.Members.{is_text, listed};
 ghost use Rattle.wire_json.specs.Suggested.{input_of, is_suggestion, texts_of, entry_of, entries_in, entries_of};
 ghost use Rattle.wire_json.specs.Suggested.{are_digits, number_of_digits, weight_upto, weight_given};
-ghost use Rattle.wire_json.specs.Suggested.{weight_of, contexts_of, has_reserved_byte, fits_a_context};
+ghost use Rattle.wire_json.specs.Suggested.{weight_of, contexts_given, has_reserved_byte, has_context_length};
 ghost use Rattle.wire_json.specs.Suggested.{is_reserved_context, is_context_text, is_digit};
 ghost use Rattle.wire_json.specs.Suggested.{has_wrong_weight, has_reserved_context};
 ghost use Rattle.wire_json.specs.Suggested.{has_wrong_contexts};
@@ -161,7 +161,7 @@ fn weight_given(value: &Value) -> Option<Weight>
     }
 }
 
-/// The weight of a suggestion, if it is one; `DEFAULT_WEIGHT` where none is given.
+/// The weight of a suggestion, where it is within its limits; `DEFAULT_WEIGHT` where it is absent.
 pub fn weight(suggestion: &Value) -> Option<Weight>
     ensures value { result ≡ weight_of (view suggestion.now) }
     ensures most { IfSome result (λ w. w ≤ MOST_WEIGHT) }
@@ -174,7 +174,7 @@ pub fn weight(suggestion: &Value) -> Option<Weight>
 
 /// The contexts of a suggestion, as they are given.
 pub fn contexts(suggestion: &Value) -> &[Value]
-    ensures { map view result.now ≡ contexts_of (view suggestion.now) }
+    ensures { map view result.now ≡ contexts_given (view suggestion.now) }
 {
     listed_at(suggestion, "contexts")
 }
@@ -187,8 +187,8 @@ pub fn has_reserved_byte(text: &str) -> bool
 }
 
 /// Whether a text has at most the bytes of a context.
-pub fn fits_a_context(text: &str) -> bool
-    ensures { result ≡ fits_a_context text.now }
+pub fn has_context_length(text: &str) -> bool
+    ensures { result ≡ has_context_length text.now }
 {
     text.len() <= MOST_CONTEXT_BYTES
 }
@@ -206,7 +206,7 @@ fn is_context_text(value: &Value) -> bool
     ensures { result ≡ is_context_text (view value.now) }
 {
     match value.as_str() {
-        Some(text) => fits_a_context(text),
+        Some(text) => has_context_length(text),
         None => false,
     }
 }
@@ -242,7 +242,7 @@ fn has_wrong_contexts(suggestion: &Value) -> bool
     contexts.len() > MOST_CONTEXTS || !are_context_texts(contexts)
 }
 
-/// Whether the weight of one of them is none.
+/// Whether the weight of one of them is out of its limits or of a wrong kind.
 pub fn any_has_wrong_weight(suggestions: &[Value]) -> bool
     ensures { result ≡ list_any has_wrong_weight (map view suggestions.now) }
 {
@@ -260,7 +260,7 @@ pub fn any_has_reserved_context(suggestions: &[Value]) -> bool
         .any(|suggestion| has_reserved_context(suggestion))
 }
 
-/// Whether one of them has too many contexts, or one that is none.
+/// Whether one of them has too many contexts, or one that is too long or no text.
 pub fn any_has_wrong_contexts(suggestions: &[Value]) -> bool
     ensures { result ≡ list_any has_wrong_contexts (map view suggestions.now) }
 {

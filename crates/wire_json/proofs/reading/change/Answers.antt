@@ -17,7 +17,7 @@ returns-in-Err-clause-refused c =
     given.id.now (map view given.suggestions.now) _ _ of
     (c.as_slice.ensures.value ∙ c.in_ok-keys.ensures.value) in
     refused-error_of_form c.args.analyzer.now c.args.lanes (plain_change given)
-    c.as_slice.result.now c.in-Err.error same (c.in-Err.ensures.refused given.how)
+    c.as_slice.result.now c.in-Err.error same c.in-Err.ensures.refused
 
 pub document-requires-clause-ready : goal.document-requires-clause-ready
 document-requires-clause-ready c =
@@ -36,7 +36,7 @@ returns-in_ok-document-in-Ok-clause-ok c =
     let same = keys_of-change c.args.analyzer.now given.how lane given.id.now ds _ _ of
     (c.as_slice.ensures.value ∙ c.in_ok-keys.ensures.value) in
     command-error_of_form c.args.analyzer.now c.args.lanes (plain_change given)
-    c.as_slice.result.now same (c.in-Ok.ensures.ok given.how)
+    c.as_slice.result.now same c.in-Ok.ensures.ok
     ∙ command_by_form-change c.args.analyzer.now c.args.lanes given.how lane given.id.now ds _ _ _
     c.lane_or_first.ensures c.operation.ensures
     (document_of-entries c.args.analyzer.now given.id.now ds _ _ _ of c.in_ok-keys.ensures.value
