@@ -1,55 +1,54 @@
 -- The code's commands and errors as plain data. Source: this project's own.
-use Rattle.std.specs.Prelude.{◌≡◌, ℕ, List, Option, Some, None, ⊤}
-use Rattle.sg_paths.specs.Documents.{PlainDocument}
+use Rattle.std.specs.Prelude.{◌≡◌, Option, Some, None, ⊤, IfSome}
 use Rattle.sg_paths.specs.Operations.{operation_of}
-use Rattle.sg_analysis.specs.declared.analyzer.Analyzer.{Analyzer}
 use Rattle.wire_json.specs.Commands as plain
-use Rattle.wire_json.specs.Commands.{input_key}
-use Rattle.wire_json.specs.Forms.{Entry}
-use Rattle.sg_analysis.specs.declared.analyzer.KeyError.{KeyError}
-use Rattle.sg_analysis.specs.declared.analyzer.KeyError.TheVariants as analyzer
-use Rattle.wire_json.specs.declared.replies.ErrorKind.{ErrorKind}
-use Rattle.wire_json.specs.declared.replies.ErrorKind.TheVariants.{Json, Shape, Key}
+use Rattle.wire_json.specs.declared.errors.ErrorKind.{ErrorKind}
+use Rattle.wire_json.specs.declared.errors.ErrorKind.TheVariants as kinds
+use Rattle.wire_json.specs.declared.errors.LineError.{LineError}
+use Rattle.wire_json.specs.declared.errors.LineError.TheVariants as errors
 use Rattle.wire_json.specs.declared.commands.Command.{Command}
-use Rattle.wire_json.specs.declared.commands.Command.TheVariants.{Blank, Accept, Suggest}
-use Rattle.wire_json.specs.declared.commands.LineError.{LineError}
-use Rattle.wire_json.specs.declared.commands.LineError.TheVariants as errors
+use Rattle.wire_json.specs.declared.commands.Command.TheVariants.{Blank, Accept, Suggest, OpenView}
+use Rattle.wire_json.specs.declared.commands.Command.TheVariants.{CloseView, Flush, Merge, Barrier}
 
+-- a command as plain data
 abbrev pub plain_command : Command → plain.Command
 plain_command Blank = plain.blank
-plain_command (Accept op) = plain.accepts (operation_of op)
-plain_command (Suggest prefix) = plain.suggests prefix
+plain_command (Accept lane op) = plain.accepts lane (operation_of op)
+plain_command (Suggest lane query view) = plain.suggests lane query view
+plain_command (OpenView lane name) = plain.opens lane name
+plain_command (CloseView lane name) = plain.closes lane name
+plain_command (Flush lane) = plain.flushes lane
+plain_command (Merge lane) = plain.merges lane
+plain_command Barrier = plain.barrier
 
 -- the error that a line is answered; none for want of memory
 abbrev pub kind_of : LineError → Option ErrorKind
-kind_of errors.Json = Some Json
-kind_of errors.Shape = Some Shape
-kind_of errors.Key = Some Key
+kind_of errors.Long = Some kinds.Long
+kind_of errors.Json = Some kinds.Json
+kind_of errors.Shape = Some kinds.Shape
+kind_of errors.Lane = Some kinds.Lane
+kind_of errors.Id = Some kinds.Id
+kind_of errors.Empty = Some kinds.Empty
+kind_of errors.Weight = Some kinds.Weight
+kind_of errors.Reserved = Some kinds.Reserved
+kind_of errors.Key = Some kinds.Key
+kind_of errors.Contexts = Some kinds.Contexts
+kind_of errors.Boost = Some kinds.Boost
+kind_of errors.K = Some kinds.K
 kind_of errors.Memory = None
 
--- a line is refused for the error that it asks for; want of memory may come at any line
+-- a line is refused with its own error; want of memory may come at any line
 abbrev pub Refuses : plain.Command → LineError → Type 0
-Refuses command errors.Json = command ≡ plain.refused Json
-Refuses command errors.Shape = command ≡ plain.refused Shape
-Refuses command errors.Key = command ≡ plain.refused Key
-Refuses command errors.Memory = ⊤
+Refuses command error = IfSome (kind_of error) (λ kind. command ≡ plain.refused kind)
 
--- the error of a line whose text has no key
-abbrev pub error_of : KeyError → LineError
-error_of (analyzer.Reserved byte at) = errors.Key
-error_of analyzer.Empty = errors.Key
-error_of (analyzer.TooLong bytes) = errors.Key
-error_of analyzer.Memory = errors.Memory
-
--- a text without a key is refused for that; want of memory may come at any text
-abbrev pub RefusesText : Option (List ℕ) → LineError → Type 0
-RefusesText k errors.Json = ⊥
-RefusesText k errors.Shape = ⊥
-RefusesText k errors.Key = k ≡ None
-RefusesText k errors.Memory = ⊤
-
--- it is the document of an entry, under the key of its input
-pub record IsDocumentOf (analyzer : Analyzer) (e : Entry) (d : PlainDocument) : Type 0 where
-  pub key : List ℕ
-  pub of_input : input_key analyzer e.input ≡ Some key
-  pub document : d ≡ plain.document_of e key
+-- the commands that lines ask for today: the other words are refused
+abbrev pub IsRead : plain.Command → Type 0
+IsRead plain.blank = ⊤
+IsRead (plain.accepts lane operation) = ⊤
+IsRead (plain.suggests lane query view) = view ≡ None
+IsRead (plain.opens lane name) = ⊥
+IsRead (plain.closes lane name) = ⊥
+IsRead (plain.flushes lane) = ⊥
+IsRead (plain.merges lane) = ⊥
+IsRead plain.barrier = ⊥
+IsRead (plain.refused kind) = ⊤

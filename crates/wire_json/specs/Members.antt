@@ -1,10 +1,10 @@
 -- The members of a JSON value that a line uses. Source: this project's own, over `serde_json`'s
 -- reading, which keeps one of the members with one name.
-use Rattle.std.specs.Prelude.{ℕ, List, Option, Some, None, option_and_then, nat_le}
-use Rattle.std.specs.Prelude.{if◌then◌else◌}
+use Rattle.std.specs.Prelude.{ℕ, Bool, is_some, List, [], ◌∷◌, Option, Some, None, option_and_then}
+use Rattle.std.specs.Option.{option_map_or}
 use Rattle.serde_json.specs.Data.{Data, null, boolean, number, string, array, object, Items}
 use Rattle.serde_json.specs.Data.{no_items, item}
-use Rattle.serde_json.specs.Find.{get, as_str, as_number, as_u64}
+use Rattle.serde_json.specs.Find.{get, as_str, as_array, as_number, as_u64}
 
 -- a value that isn't null
 abbrev pub unless_null : Data → Option Data
@@ -23,14 +23,23 @@ member_of name d = option_and_then unless_null (get name d)
 abbrev pub text_of : List ℕ → Data → Option (List ℕ)
 text_of name d = option_and_then as_str (member_of name d)
 
--- a whole number from 0 to most
-abbrev pub whole_upto : ℕ → Data → Option ℕ
-whole_upto most d =
-    option_and_then (λ n. if nat_le n most then Some n else None)
-    (option_and_then as_u64 (as_number d))
+-- whether it is a text
+abbrev pub is_text : Data → Bool
+is_text d = is_some (as_str d)
 
--- the one item of a list
-abbrev pub only_item : Items → Option Data
-only_item no_items = None
-only_item (item d no_items) = Some d
-only_item (item d (item e ds)) = None
+-- a number that is held as an unsigned 64-bit number
+abbrev pub whole_of : Data → Option ℕ
+whole_of d = option_and_then as_u64 (as_number d)
+
+-- the items of a list
+abbrev pub list_of : Items → List Data
+list_of no_items = []
+list_of (item d ds) = d ∷ list_of ds
+
+-- one thing, or a list of them
+abbrev pub listed : Data → List Data
+listed d = option_map_or list_of (as_array d) (d ∷ [])
+
+-- what a member lists: nothing where it is absent
+abbrev pub listed_at : List ℕ → Data → List Data
+listed_at name d = option_map_or listed (member_of name d) []

@@ -1,34 +1,77 @@
--- The code's forms, which borrow from a line's value, as plain data.
-use Rattle.std.specs.Prelude.{◌≤◌, ◌<◌, ℕ, List, length, ⊤}
-use Rattle.sg_base.specs.declared.limits.TheConstants.{MOST_WEIGHT}
-use Rattle.sg_paths.specs.declared.limits.TheConstants.{MOST_ID_BYTES}
+-- The code's forms, which borrow from a line's value, as plain data, and what the code knows of a
+-- form without an error. No public clause cites it. Source: this project's own.
+use Rattle.std.specs.Prelude.{◌≡◌, true, ℕ, List, [], map, Option, Some, None, option_map, ⊤}
+use Rattle.std.specs.Borrow.{Bor}
+use Rattle.serde_json.specs.View.{view}
+use Rattle.serde_json.specs.declared.value.Value.{Value}
+use Rattle.wire_json.specs.Suggested.{entries_of}
+use Rattle.wire_json.specs.Asked.{QueryOptions}
+use Rattle.wire_json.specs.LineErrors.{Used}
 use Rattle.wire_json.specs.Forms as plain
+use Rattle.wire_json.specs.EntryForms.{plain_entry}
+use Rattle.wire_json.specs.declared.forms.GivenChange.{GivenChange}
+use Rattle.wire_json.specs.declared.forms.GivenQuery.{GivenQuery}
 use Rattle.wire_json.specs.declared.forms.Form.{Form}
-use Rattle.wire_json.specs.declared.forms.Form.TheVariants.{Add, Update, Delete, Suggest}
-use Rattle.wire_json.specs.declared.forms.Entry.{Entry}
+use Rattle.wire_json.specs.declared.forms.Form.TheVariants.{Change, Delete, Suggest}
 
-abbrev pub plain_entry : Entry → plain.Entry
-plain_entry e = record { id = e.id.now; input = e.input.now; weight = e.weight }
+-- a change as plain data
+abbrev pub plain_change : GivenChange → plain.Form
+plain_change given =
+    plain.change given.how (option_map (λ v. view v.now) given.lane) given.id.now
+    (map view given.suggestions.now)
 
+-- the options of a query as plain data
+abbrev pub plain_options : Option (Bor Value) → List Value → QueryOptions
+plain_options k contexts =
+    record { k = option_map (λ v. view v.now) k; contexts = map view contexts }
+
+-- a query as plain data
+abbrev pub plain_query : GivenQuery → plain.Form
+plain_query given =
+    plain.suggest (option_map (λ v. view v.now) given.lane) given.prefix.now
+    (plain_options given.k given.contexts.now)
+
+-- a form as plain data
 abbrev pub plain_form : Form → plain.Form
-plain_form (Add entry) = plain.add (plain_entry entry)
-plain_form (Update entry) = plain.update (plain_entry entry)
-plain_form (Delete id) = plain.delete id.now
-plain_form (Suggest prefix) = plain.suggest prefix.now
+plain_form (Change given) = plain_change given
+plain_form (Delete lane id) = plain.delete (option_map (λ v. view v.now) lane) id.now
+plain_form (Suggest given) = plain_query given
 
--- an id has 1 to 255 bytes
-pub record HasIdBytes (id : List ℕ) : Type 0 where
-  pub some : 0 < length id
-  pub most : length id ≤ MOST_ID_BYTES
+-- the entries are those of the suggestions, 1 to 16
+pub record EntriesFit (given : GivenChange) : Type 0 where
+  pub are : map plain_entry given.entries.items ≡ entries_of (map view given.suggestions.now)
+  pub document : plain.make_a_document (map view given.suggestions.now) ≡ true
 
--- the id and the weight of an entry are within their limits
-pub record IsEntry (e : plain.Entry) : Type 0 where
-  pub id_bytes : HasIdBytes e.id
-  pub most_weight : e.weight ≤ MOST_WEIGHT
+-- where it is a change, its entries fit
+abbrev pub HasItsEntries : Form → Type 0
+HasItsEntries (Change given) = EntriesFit given
+HasItsEntries (Delete lane id) = ⊤
+HasItsEntries (Suggest given) = ⊤
 
--- the parts of a form are within their limits
-abbrev pub IsForm : plain.Form → Type 0
-IsForm (plain.add e) = IsEntry e
-IsForm (plain.update e) = IsEntry e
-IsForm (plain.delete id) = HasIdBytes id
-IsForm (plain.suggest prefix) = ⊤
+-- what each form uses of its line, by the code's values
+abbrev pub used_by_change : Option (Bor Value) → List ℕ → List Value → Used
+used_by_change lane id suggestions =
+    record {
+      lane = option_map (λ v. view v.now) lane;
+      id = Some id;
+      suggestions = map view suggestions;
+      options = None;
+    }
+
+abbrev pub used_by_delete : Option (Bor Value) → List ℕ → Used
+used_by_delete lane id =
+    record {
+      lane = option_map (λ v. view v.now) lane;
+      id = Some id;
+      suggestions = [];
+      options = None;
+    }
+
+abbrev pub used_by_query : Option (Bor Value) → Option (Bor Value) → List Value → Used
+used_by_query lane k contexts =
+    record {
+      lane = option_map (λ v. view v.now) lane;
+      id = None;
+      suggestions = [];
+      options = Some (plain_options k contexts);
+    }

@@ -1,190 +1,164 @@
 //! The form of a line's value.
-ghost use Rattle.std.specs.Prelude.{◌≡◌, ◌≤◌, codes, option_map, option_and_then, IfSome};
+ghost use Rattle.std.specs.Prelude.{◌≡◌, ◌&&◌, nat_le, is_some, IfOk, IfSome, codes, map, option_map};
+ghost use Rattle.sg_paths.specs.declared.limits.TheConstants.{MOST_SUGGESTIONS};
 ghost use Rattle.serde_json.specs.View.{view};
-ghost use Rattle.serde_json.specs.Find.{as_array};
-ghost use Rattle.sg_base.specs.declared.limits.TheConstants.{MOST_WEIGHT};
-ghost use Rattle.wire_json.specs.Members.{member_of, text_of, whole_upto};
-ghost use Rattle.wire_json.specs.Forms.{form_of, has_no_unread_member, suggestion_of, entry_of};
-ghost use Rattle.wire_json.specs.Forms.{entry_of_suggestion, entry_in, id_of, valid_id};
-ghost use Rattle.wire_json.specs.Forms.{weight_or_one, is_id};
-ghost use Rattle.wire_json.specs.Forms as plain;
-ghost use Rattle.wire_json.specs.ReadForms.{plain_entry, plain_form, HasIdBytes, IsEntry, IsForm};
+ghost use Rattle.wire_json.specs.Members.{listed_at};
+ghost use Rattle.wire_json.specs.Suggested.{entries_of};
+ghost use Rattle.wire_json.specs.Forms.{lane_given, change_of, delete_of, suggest_of, form_by};
+ghost use Rattle.wire_json.specs.Forms.{form_of, make_a_document};
+ghost use Rattle.wire_json.specs.EntryForms.{plain_entry};
+ghost use Rattle.wire_json.specs.ReadForms.{plain_form, HasItsEntries};
 
-use crate::members::{member, only, text, whole};
+use crate::members::{listed_at, member, text};
+use crate::suggested::{Entry, all_are_suggestions, entries};
 use serde_json::Value;
-use sg_base::{MOST_WEIGHT, Weight};
-use sg_paths::MOST_ID_BYTES;
+use sg_paths::MOST_SUGGESTIONS;
+use std::alloc::{AllocError, Global};
 
-/// One suggestion under an id, still in a line's value.
-#[derive(Clone, Copy)]
-pub struct Entry<'v> {
+/// How a document comes in.
+#[derive(Clone, Copy, Debug, PartialEq, Eq)]
+pub enum Change {
+    /// Beside the documents with its id.
+    Add,
+    /// In their place.
+    Update,
+}
+
+/// A change as it is given.
+#[derive(Drop)]
+pub struct GivenChange<'v> {
+    pub how: Change,
+    pub lane: Option<&'v Value>,
     pub id: &'v str,
-    pub input: &'v str,
-    pub weight: Weight,
+    pub suggestions: &'v [Value],
+    /// One a text, of all suggestions.
+    pub entries: Vec<Entry<'v>>,
 }
 
-/// What a line asks for, still in its value.
+/// A query as it is given.
 #[derive(Clone, Copy)]
+pub struct GivenQuery<'v> {
+    pub lane: Option<&'v Value>,
+    pub prefix: &'v str,
+    pub k: Option<&'v Value>,
+    pub contexts: &'v [Value],
+}
+
+/// What a line asks for, its members as they are given.
+#[derive(Drop)]
 pub enum Form<'v> {
-    Add { entry: Entry<'v> },
-    Update { entry: Entry<'v> },
-    Delete { id: &'v str },
-    Suggest { prefix: &'v str },
+    Change {
+        given: GivenChange<'v>,
+    },
+    Delete {
+        lane: Option<&'v Value>,
+        id: &'v str,
+    },
+    Suggest {
+        given: GivenQuery<'v>,
+    },
 }
 
-fn is_an_id(id: &str) -> bool
-    ensures { result ≡ is_id id.now }
+fn lane_given(value: &Value) -> Option<&Value>
+    ensures { option_map (λ v. view v.now) result ≡ lane_given (view value.now) }
 {
-    1 <= id.len() && id.len() <= MOST_ID_BYTES
+    member(value, "lane")
 }
 
-fn unless_invalid(id: Option<&str>) -> Option<&str>
-    ensures id { option_map (λ s. s.now) result ≡ valid_id (option_map (λ s. s.now) id.entry) }
-    ensures limits { IfSome (option_map (λ s. s.now) result) HasIdBytes }
+fn is_count_of_suggestions(count: usize) -> bool
+    ensures { result ≡ (nat_le 1 count && nat_le count MOST_SUGGESTIONS) }
 {
-    let id = id?;
-    if is_an_id(id) { Some(id) } else { None }
+    1 <= count && count <= MOST_SUGGESTIONS
 }
 
-fn id(value: &Value) -> Option<&str>
-    ensures id { option_map (λ s. s.now) result ≡ id_of (view value.now) }
-    ensures limits { IfSome (option_map (λ s. s.now) result) HasIdBytes }
+// The entries of suggestions, where they make a document.
+fn entries_of_document(
+    alloc: Global,
+    suggestions: &[Value],
+) -> Result<Option<Vec<Entry<'_>>>, AllocError>
+    ensures found { IfOk result (λ found.
+        is_some found ≡ make_a_document (map view suggestions.entry.now)) }
+    ensures entries { IfOk result (λ found. IfSome found (λ es.
+        map plain_entry es.items ≡ entries_of (map view suggestions.entry.now))) }
 {
-    unless_invalid(text(value, "id"))
+    if !all_are_suggestions(suggestions) {
+        return Ok(None);
+    }
+    let entries = entries(alloc, suggestions)?;
+    if is_count_of_suggestions(entries.len()) {
+        Ok(Some(entries))
+    } else {
+        Ok(None)
+    }
 }
 
-fn weight_of(given: &Value) -> Option<Weight>
-    ensures value { result ≡ whole_upto MOST_WEIGHT (view given.now) }
-    ensures most { IfSome result (λ w. w ≤ MOST_WEIGHT) }
+fn read_change(alloc: Global, how: Change, value: &Value) -> Result<Option<Form<'_>>, AllocError>
+    ensures form { IfOk result (λ form. option_map plain_form form
+        ≡ change_of how (view value.entry.now)
+        (listed_at (codes "suggest") (view value.entry.now))) }
+    ensures entries { IfOk result (λ form. IfSome form HasItsEntries) }
 {
-    match whole(given, u64::from(MOST_WEIGHT)) {
-        Some(number) => Some(number as Weight),
+    let suggestions = listed_at(value, "suggest");
+    match (entries_of_document(alloc, suggestions)?, text(value, "id")) {
+        (Some(entries), Some(id)) => {
+            let lane = lane_given(value);
+            let given = GivenChange {
+                how,
+                lane,
+                id,
+                suggestions,
+                entries,
+            };
+            Ok(Some(Form::Change { given }))
+        }
+        _ => Ok(None),
+    }
+}
+
+fn read_delete(value: &Value) -> Option<Form<'_>>
+    ensures form { option_map plain_form result ≡ delete_of (view value.now) }
+    ensures entries { IfSome result HasItsEntries }
+{
+    match text(value, "id") {
+        Some(id) => Some(Form::Delete {
+            lane: lane_given(value),
+            id,
+        }),
         None => None,
     }
 }
 
-fn weight(suggestion: &Value) -> Option<Weight>
-    ensures value { result ≡ weight_or_one (member_of (codes "weight") (view suggestion.now)) }
-    ensures most { IfSome result (λ w. w ≤ MOST_WEIGHT) }
+fn read_suggest(value: &Value) -> Option<Form<'_>>
+    ensures form { option_map plain_form result ≡ suggest_of (view value.now) }
+    ensures entries { IfSome result HasItsEntries }
 {
-    match member(suggestion, "weight") {
-        Some(given) => weight_of(given),
-        None => Some(1),
-    }
-}
-
-fn make_entry<'v>(
-    id: Option<&'v str>,
-    input: Option<&'v str>,
-    weight: Option<Weight>,
-) -> Option<Entry<'v>>
-    requires id_bytes { IfSome (option_map (λ s. s.now) id) HasIdBytes }
-    requires most_weight { IfSome weight (λ w. w ≤ MOST_WEIGHT) }
-    ensures entry { option_map plain_entry result
-        ≡ entry_of (option_map (λ s. s.now) id.entry) (option_map (λ s. s.now) input.entry) weight }
-    ensures limits { IfSome (option_map plain_entry result) IsEntry }
-{
-    let (Some(id), Some(input), Some(weight)) = (id, input, weight) else {
+    if member(value, "view").is_some() {
         return None;
-    };
-    Some(Entry { id, input, weight })
-}
-
-fn entry_with<'v>(id: Option<&'v str>, suggestion: Option<&'v Value>) -> Option<Entry<'v>>
-    requires { IfSome (option_map (λ s. s.now) id) HasIdBytes }
-    ensures entry { option_map plain_entry result
-        ≡ entry_of_suggestion (option_map (λ s. s.now) id.entry)
-        (option_map (λ v. view v.now) suggestion.entry) }
-    ensures limits { IfSome (option_map plain_entry result) IsEntry }
-{
-    let suggestion = suggestion?;
-    if member(suggestion, "contexts").is_some() {
-        return None;
     }
-    make_entry(id, text(suggestion, "input"), weight(suggestion))
-}
-
-fn one_suggestion(value: &Value) -> Option<&Value>
-    ensures { option_map (λ v. view v.now) result ≡ suggestion_of (view value.now) }
-{
-    let list = match member(value, "suggest") {
-        Some(found) => found.as_array()?,
-        None => return None,
-    };
-    only(list.as_slice())
-}
-
-fn read_entry(value: &Value) -> Option<Entry<'_>>
-    ensures entry { option_map plain_entry result ≡ entry_in (view value.now) }
-    ensures limits { IfSome (option_map plain_entry result) IsEntry }
-{
-    entry_with(id(value), one_suggestion(value))
-}
-
-fn has_no_unread_member(value: &Value) -> bool
-    ensures { result ≡ has_no_unread_member (view value.now) }
-{
-    member(value, "lane").is_none()
-        && member(value, "k").is_none()
-        && member(value, "contexts").is_none()
-        && member(value, "view").is_none()
-}
-
-fn add(value: &Value) -> Option<Form<'_>>
-    ensures form { option_map plain_form result ≡ option_map plain.add (entry_in (view value.now)) }
-    ensures limits { IfSome (option_map plain_form result) IsForm }
-{
-    match read_entry(value) {
-        Some(entry) => Some(Form::Add { entry }),
-        None => None,
-    }
-}
-
-fn update(value: &Value) -> Option<Form<'_>>
-    ensures form { option_map plain_form result
-        ≡ option_map plain.update (entry_in (view value.now)) }
-    ensures limits { IfSome (option_map plain_form result) IsForm }
-{
-    match read_entry(value) {
-        Some(entry) => Some(Form::Update { entry }),
-        None => None,
-    }
-}
-
-fn delete(value: &Value) -> Option<Form<'_>>
-    ensures form { option_map plain_form result ≡ option_map plain.delete (id_of (view value.now)) }
-    ensures limits { IfSome (option_map plain_form result) IsForm }
-{
-    match id(value) {
-        Some(id) => Some(Form::Delete { id }),
-        None => None,
-    }
-}
-
-fn suggest(value: &Value) -> Option<Form<'_>>
-    ensures form { option_map plain_form result
-        ≡ option_map plain.suggest (text_of (codes "prefix") (view value.now)) }
-    ensures limits { IfSome (option_map plain_form result) IsForm }
-{
     match text(value, "prefix") {
-        Some(prefix) => Some(Form::Suggest { prefix }),
+        Some(prefix) => {
+            let given = GivenQuery {
+                lane: lane_given(value),
+                prefix,
+                k: member(value, "k"),
+                contexts: listed_at(value, "contexts"),
+            };
+            Some(Form::Suggest { given })
+        }
         None => None,
     }
 }
 
 /// The form of a line's value, if it has one.
-pub fn read_form(value: &Value) -> Option<Form<'_>>
-    ensures form { option_map plain_form result ≡ form_of (view value.now) }
-    ensures limits { IfSome (option_map plain_form result) IsForm }
+pub fn read_form(alloc: Global, value: &Value) -> Result<Option<Form<'_>>, AllocError>
+    ensures form { IfOk result (λ form. option_map plain_form form ≡ form_of (view value.entry.now)) }
+    ensures entries { IfOk result (λ form. IfSome form HasItsEntries) }
 {
-    if !has_no_unread_member(value) {
-        return None;
-    }
     match text(value, "op") {
-        Some("add") => add(value),
-        Some("update") => update(value),
-        Some("delete") => delete(value),
-        Some("suggest") => suggest(value),
-        _ => None,
+        Some("add") => read_change(alloc, Change::Add, value),
+        Some("update") => read_change(alloc, Change::Update, value),
+        Some("delete") => Ok(read_delete(value)),
+        Some("suggest") => Ok(read_suggest(value)),
+        _ => Ok(None),
     }
 }

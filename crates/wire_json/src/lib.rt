@@ -2,17 +2,29 @@
 //! line as bytes, a command and a reply as plain data, and JSON by `serde_json`'s definitions.
 #![tactic(auto)]
 
+mod asked;
+mod building;
+mod checks;
 mod commands;
+mod error_names;
+mod errors;
 mod forms;
+mod keys;
+mod limits;
 mod members;
 mod reading;
 mod replies;
 mod reply_lines;
+mod suggested;
 
-pub use commands::{Command, LineError, MOST_BLANK_BYTES};
+pub use commands::Command;
+pub use errors::{ErrorKind, LineError};
+pub use limits::{DEFAULT_WEIGHT, MOST_LINE_BYTES, MOST_WEIGHT_DIGITS};
 pub use reading::command;
-pub use replies::{ErrorKind, OutRow, Reply};
-pub use reply_lines::reply;
+pub use replies::{OutRow, Reply};
+pub use reply_lines::{replies_with_the_same_data_are_the_same, reply};
 
+#[cfg(test)]
+mod reply_tests;
 #[cfg(test)]
 mod tests;

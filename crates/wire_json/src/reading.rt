@@ -1,134 +1,156 @@
 //! From a line to its command.
-ghost use Rattle.std.specs.Prelude.{◌≡◌, ◌<◌, ◌≤◌, nat_le, IsTrue, IfOk, IfErr, length, option_map};
-ghost use Rattle.std.specs.Prelude.{Some};
-ghost use Rattle.std.specs.List.{list_all};
+ghost use Rattle.std.specs.Prelude.{◌≡◌, IfOk, IfErr, option_map};
+ghost use Rattle.sg_analysis.specs.declared.analyzer.Analyzer.{Analyzer};
 ghost use Rattle.serde_json.specs.View.{view};
-ghost use Rattle.sg_analysis.specs.Analysis.{analysis_of};
-ghost use Rattle.sg_paths.specs.Operations.{adds, updates, deletes};
-ghost use Rattle.sg_paths.specs.declared.limits.TheConstants.{MOST_TEXT_BYTES};
-ghost use Rattle.wire_json.specs.ReadForms.{plain_entry, plain_form, IsEntry, IsForm, HasIdBytes};
-ghost use Rattle.wire_json.specs.Commands.{key_of, input_key, accepts, command_of_form};
-ghost use Rattle.wire_json.specs.Commands.{command_by_form, command_of_value, document_of};
+ghost use Rattle.wire_json.specs.Forms as plain;
+ghost use Rattle.wire_json.specs.Commands.{command_of_form, command_of_value, command_of_text};
 ghost use Rattle.wire_json.specs.Commands.{is_blank_byte, is_blank, command_of};
-ghost use Rattle.wire_json.specs.CommandForms.{plain_command, Refuses, RefusesText, error_of};
-ghost use Rattle.wire_json.specs.CommandForms.{IsDocumentOf};
+ghost use Rattle.wire_json.specs.CommandForms.{plain_command, Refuses, IsRead};
+ghost use Rattle.wire_json.specs.ReadForms.{plain_change, plain_query, plain_form, EntriesFit};
+ghost use Rattle.wire_json.specs.ReadForms.{HasItsEntries};
 
-use crate::commands::{Command, LineError, MOST_BLANK_BYTES};
-use crate::forms::{Entry, Form, read_form};
+use crate::building::{document, operation, query};
+use crate::checks::{check_change, check_delete, check_suggest, lane_or_first};
+use crate::commands::Command;
+use crate::errors::LineError;
+use crate::forms::{Form, GivenChange, GivenQuery, read_form};
+use crate::keys::{input_keys, prefix_key};
+use crate::limits::MOST_LINE_BYTES;
 use serde_json::{Category, Value};
-use sg_analysis::{Analyzer, KeyError};
-use sg_base::{Key, Text};
-use sg_paths::{Document, MOST_TEXT_BYTES, Op, Suggestion};
+use sg_analysis::Analyzer;
+use sg_base::Text;
+use sg_paths::Op;
 use std::alloc::{AllocError, Global};
 
-fn line_error(error: KeyError) -> LineError
-    ensures { result ≡ error_of error }
-{
-    match error {
-        KeyError::Memory => LineError::Memory,
-        KeyError::Reserved { .. } | KeyError::Empty | KeyError::TooLong { .. } => { LineError::Key }
-    }
-}
-
-// The key of a text that isn't long. A long text isn't analysed.
-fn key(alloc: Global, analyzer: &Analyzer, text: &str, cut: bool) -> Result<Key, LineError>
-    ensures ok { IfOk result
-        (λ k. key_of text.now (analysis_of analyzer.now text.now cut) ≡ Some k) }
-    ensures refused { IfErr result
-        (RefusesText (key_of text.now (analysis_of analyzer.now text.now cut))) }
-    ensures filled { IfOk result (λ k. IsTrue cut → 0 < length k) }
-    ensures within { IfOk result (λ _. length text.now ≤ MOST_TEXT_BYTES) }
-{
-    if text.len() > MOST_TEXT_BYTES {
-        return Err(LineError::Key);
-    }
-    match analyzer.key(alloc, text, cut) {
-        Ok(key) => Ok(key),
-        Err(error) => Err(line_error(error)),
-    }
-}
-
-// A document with one suggestion and no contexts.
-fn make_document(alloc: Global, entry: Entry<'_>, key: Key) -> Result<Document, AllocError>
-    requires entry { IsEntry (plain_entry entry) }
-    requires text_bytes { length entry.input.now ≤ MOST_TEXT_BYTES }
-    requires has_key { 0 < length key }
-    ensures { IfOk result (λ d. d ≡ document_of (plain_entry entry.entry) key) }
-{
-    let text = Text::of(alloc, entry.input)?;
-    let Ok(suggestion) = Suggestion::new(text, key, entry.weight, Vec::new(alloc)) else {
-        unreachable!();
-    };
-    let mut suggestions = Vec::with_capacity(alloc, 1)?;
-    suggestions.push(suggestion)?;
-    let id = Text::of(alloc, entry.id)?;
-    let Ok(document) = Document::new(id, suggestions) else {
-        unreachable!();
-    };
-    Ok(document)
-}
-
-// The document of an entry.
-fn document(alloc: Global, analyzer: &Analyzer, entry: Entry<'_>) -> Result<Document, LineError>
-    requires { IsEntry (plain_entry entry) }
-    ensures ok { IfOk result (λ d. IsDocumentOf analyzer.now (plain_entry entry.entry) d) }
-    ensures refused { IfErr result
-        (RefusesText (input_key analyzer.now entry.entry.input.now)) }
-{
-    let key = key(alloc, analyzer, entry.input, true)?;
-    match make_document(alloc, entry, key) {
-        Ok(document) => Ok(document),
-        Err(_) => Err(LineError::Memory),
-    }
-}
-
-fn delete(alloc: Global, id: &str) -> Result<Command, LineError>
-    ensures ok { IfOk result (λ c. accepts (deletes id.now) ≡ plain_command c) }
-    ensures refused { IfErr result (Refuses (accepts (deletes id.now))) }
-{
-    match Text::of(alloc, id) {
-        Ok(id) => Ok(Command::Accept { op: Op::Delete(id) }),
-        Err(_) => Err(LineError::Memory),
-    }
-}
-
-fn command_for(alloc: Global, analyzer: &Analyzer, form: Form<'_>) -> Result<Command, LineError>
-    requires { IsForm (plain_form form) }
+fn change(
+    alloc: Global,
+    lanes: u32,
+    analyzer: &Analyzer,
+    given: &GivenChange<'_>,
+) -> Result<Command, LineError>
+    requires { EntriesFit given.now }
     ensures ok { IfOk result (λ c.
-        command_of_form analyzer.now (plain_form form.entry) ≡ plain_command c) }
+        command_of_form analyzer.now lanes (plain_change given.now) ≡ plain_command c) }
     ensures refused { IfErr result (Refuses
-        (command_of_form analyzer.now (plain_form form.entry))) }
+        (command_of_form analyzer.now lanes (plain_change given.now))) }
+    ensures read { IfOk result (λ c. IsRead (plain_command c)) }
+{
+    let entries = given.entries.as_slice();
+    let keys = input_keys(alloc, analyzer, entries)?;
+    match check_change(
+        lanes,
+        given.lane,
+        given.id,
+        given.suggestions,
+        keys.as_slice(),
+    ) {
+        Ok(()) => {
+            let document = document(alloc, given.id, entries, keys)?;
+            Ok(Command::Accept {
+                lane: lane_or_first(lanes, given.lane),
+                op: operation(given.how, document),
+            })
+        }
+        Err(error) => Err(error),
+    }
+}
+
+fn delete(alloc: Global, lanes: u32, lane: Option<&Value>, id: &str) -> Result<Command, LineError>
+    ensures ok { IfOk result (λ c. (analyzer : Analyzer) → command_of_form analyzer lanes
+        (plain.delete (option_map (λ v. view v.now) lane.entry) id.now) ≡ plain_command c) }
+    ensures refused { IfErr result (λ e. (analyzer : Analyzer) → Refuses (command_of_form analyzer
+        lanes (plain.delete (option_map (λ v. view v.now) lane.entry) id.now)) e) }
+    ensures read { IfOk result (λ c. IsRead (plain_command c)) }
+{
+    check_delete(lanes, lane, id)?;
+    let id = Text::of(alloc, id)?;
+    Ok(Command::Accept {
+        lane: lane_or_first(lanes, lane),
+        op: Op::Delete(id),
+    })
+}
+
+fn suggest(
+    alloc: Global,
+    lanes: u32,
+    analyzer: &Analyzer,
+    given: GivenQuery<'_>,
+) -> Result<Command, LineError>
+    ensures ok { IfOk result (λ c.
+        command_of_form analyzer.now lanes (plain_query given.entry) ≡ plain_command c) }
+    ensures refused { IfErr result (Refuses
+        (command_of_form analyzer.now lanes (plain_query given.entry))) }
+    ensures read { IfOk result (λ c. IsRead (plain_command c)) }
+{
+    let key = prefix_key(alloc, analyzer, given.prefix)?;
+    match check_suggest(lanes, given.lane, given.k, given.contexts, &key) {
+        Ok(()) => {
+            let query = query(alloc, key, given.k, given.contexts)?;
+            Ok(Command::Suggest {
+                lane: lane_or_first(lanes, given.lane),
+                query,
+                view: None,
+            })
+        }
+        Err(error) => Err(error),
+    }
+}
+
+fn command_for(
+    alloc: Global,
+    lanes: u32,
+    analyzer: &Analyzer,
+    form: Form<'_>,
+) -> Result<Command, LineError>
+    requires { HasItsEntries form }
+    ensures ok { IfOk result (λ c.
+        command_of_form analyzer.now lanes (plain_form form.entry) ≡ plain_command c) }
+    ensures refused { IfErr result (Refuses
+        (command_of_form analyzer.now lanes (plain_form form.entry))) }
+    ensures read { IfOk result (λ c. IsRead (plain_command c)) }
 {
     match form {
-        Form::Add { entry } => match document(alloc, analyzer, entry) {
-            Ok(document) => Ok(Command::Accept {
-                op: Op::Add(document),
-            }),
-            Err(error) => Err(error),
-        },
-        Form::Update { entry } => match document(alloc, analyzer, entry) {
-            Ok(document) => Ok(Command::Accept {
-                op: Op::Update(document),
-            }),
-            Err(error) => Err(error),
-        },
-        Form::Delete { id } => delete(alloc, id),
-        Form::Suggest { prefix } => match key(alloc, analyzer, prefix, false) {
-            Ok(prefix) => Ok(Command::Suggest { prefix }),
-            Err(error) => Err(error),
-        },
+        Form::Change { given } => change(alloc, lanes, analyzer, &given),
+        Form::Delete { lane, id } => delete(alloc, lanes, lane, id),
+        Form::Suggest { given } => suggest(alloc, lanes, analyzer, given),
     }
 }
 
-fn command_by_value(alloc: Global, analyzer: &Analyzer, value: &Value) -> Result<Command, LineError>
+fn command_by_value(
+    alloc: Global,
+    lanes: u32,
+    analyzer: &Analyzer,
+    value: &Value,
+) -> Result<Command, LineError>
     ensures ok { IfOk result (λ c.
-        command_of_value analyzer.now (Some (view value.now)) ≡ plain_command c) }
+        command_of_value analyzer.now lanes (view value.now) ≡ plain_command c) }
     ensures refused { IfErr result (Refuses
-        (command_of_value analyzer.now (Some (view value.now)))) }
+        (command_of_value analyzer.now lanes (view value.now))) }
+    ensures read { IfOk result (λ c. IsRead (plain_command c)) }
 {
-    match read_form(value) {
-        Some(form) => command_for(alloc, analyzer, form),
-        None => Err(LineError::Shape),
+    match read_form(alloc, value) {
+        Ok(Some(form)) => command_for(alloc, lanes, analyzer, form),
+        Ok(None) => Err(LineError::Shape),
+        Err(AllocError) => Err(LineError::Memory),
+    }
+}
+
+fn command_by_text(
+    alloc: Global,
+    lanes: u32,
+    analyzer: &Analyzer,
+    line: &[u8],
+) -> Result<Command, LineError>
+    ensures ok { IfOk result (λ c. command_of_text analyzer.now lanes line.now ≡ plain_command c) }
+    ensures refused { IfErr result (Refuses (command_of_text analyzer.now lanes line.now)) }
+    ensures read { IfOk result (λ c. IsRead (plain_command c)) }
+{
+    match Value::from_slice(alloc, line) {
+        Ok(value) => command_by_value(alloc, lanes, analyzer, &value),
+        Err(error) => match error.classify() {
+            Category::Memory => Err(LineError::Memory),
+            _ => Err(LineError::Json),
+        },
     }
 }
 
@@ -138,32 +160,29 @@ fn is_blank_at(byte: u8) -> bool
     byte == b' ' || byte == b'\t' || byte == b'\r'
 }
 
-fn has_blanks_alone(line: &[u8]) -> bool
-    ensures { result ≡ list_all is_blank_byte line.now }
+fn is_a_blank(line: &[u8]) -> bool
+    ensures { result ≡ is_blank line.now }
 {
     line.iter().all(|byte| is_blank_at(*byte))
 }
 
-fn is_a_blank(line: &[u8]) -> bool
-    ensures { result ≡ is_blank line.now }
+/// What a line asks for, without its line feed, where there are `lanes` workers. Reads the line once
+/// and analyses each of its texts once. The errors in order: those of `LineError`.
+pub fn command(
+    alloc: Global,
+    line: &[u8],
+    lanes: u32,
+    analyzer: &Analyzer,
+) -> Result<Command, LineError>
+    ensures ok { IfOk result (λ c. command_of analyzer.now lanes line.now ≡ plain_command c) }
+    ensures refused { IfErr result (Refuses (command_of analyzer.now lanes line.now)) }
+    ensures read { IfOk result (λ c. IsRead (plain_command c)) }
 {
-    line.len() <= MOST_BLANK_BYTES && has_blanks_alone(line)
-}
-
-/// What a line asks for, without its line feed. Parses the line once; the cost is that of reading
-/// the JSON and of analysing one text of at most 1,024 bytes.
-pub fn command(alloc: Global, line: &[u8], analyzer: &Analyzer) -> Result<Command, LineError>
-    ensures ok { IfOk result (λ c. command_of analyzer.now line.now ≡ plain_command c) }
-    ensures refused { IfErr result (Refuses (command_of analyzer.now line.now)) }
-{
+    if line.len() > MOST_LINE_BYTES {
+        return Err(LineError::Long);
+    }
     if is_a_blank(line) {
         return Ok(Command::Blank);
     }
-    match Value::from_slice(alloc, line) {
-        Ok(value) => command_by_value(alloc, analyzer, &value),
-        Err(error) => match error.classify() {
-            Category::Memory => Err(LineError::Memory),
-            _ => Err(LineError::Json),
-        },
-    }
+    command_by_text(alloc, lanes, analyzer, line)
 }

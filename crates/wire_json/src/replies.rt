@@ -1,28 +1,8 @@
 //! Replies.
 
-use crate::reply_lines::error_name;
-use sg_base::{List, Text};
-use std::fmt;
+use crate::errors::ErrorKind;
+use sg_base::{Cut, List, Text};
 use std::marker::Model;
-
-/// Why a line is refused, in the order in which it is tested.
-#[derive(Clone, Copy, Debug, PartialEq, Eq)]
-pub enum ErrorKind {
-    /// No JSON value in UTF-8.
-    Json,
-    /// None of the forms of a command.
-    Shape,
-    /// A text that has no key, or is too long.
-    Key,
-    /// An operation beyond the greatest number of them.
-    Full,
-}
-
-impl fmt::Display for ErrorKind {
-    fn fmt<W: fmt::Write>(&self, f: &mut fmt::Formatter<W>) -> fmt::Result {
-        f.write_str(error_name(*self))
-    }
-}
 
 /// A row as it is printed.
 #[derive(Debug, Drop)]
@@ -49,11 +29,38 @@ pub enum Reply {
         line: u64,
         seq: u64,
     },
-    /// The rows of a query, in their order, over the first `upto` operations.
+    /// The rows of a query, in their order, over the first `upto` operations. Without a cut they
+    /// are all that were asked for, or all there are.
     Rows {
         line: u64,
         upto: u64,
         rows: List<OutRow>,
+        cut: Option<Cut>,
+    },
+    /// A view over the first `upto` operations, under its name.
+    Opened {
+        line: u64,
+        view: Text,
+        upto: u64,
+    },
+    Closed {
+        line: u64,
+        view: Text,
+    },
+    /// How many segments a flush built.
+    Built {
+        line: u64,
+        count: u32,
+    },
+    /// How many segments a merge took; 0 where none was due.
+    Merged {
+        line: u64,
+        count: u32,
+    },
+    /// How many operations were accepted before a barrier.
+    Accepted {
+        line: u64,
+        count: u64,
     },
     Error {
         line: u64,

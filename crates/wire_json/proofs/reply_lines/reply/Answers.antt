@@ -1,16 +1,38 @@
-use Rattle.std.proofs.Common.{◌≡◌, ◌++◌, ◌∷◌, [], ◌∙◌, ap, false, List, ℕ}
-use Rattle.serde_json.specs.View.{view}
-use Rattle.serde_json.specs.Written.{has_float}
-use Rattle.wire_json.specs.Replies.{line_text}
+-- What stands before the line feed is the reply's compact text, which has none.
+use Rattle.std.proofs.Common.{◌≡◌, ◌++◌, ◌∷◌, [], ◌∙◌, sym, ap, subst, ℕ, List, rules}
+use Rattle.std.specs.Str.{IsUtf8}
+use Rattle.std.proofs.lemmas.Str.{IsUtf8-append, IsUtf8-from_ascii}
+use Rattle.serde_json.specs.Read.{read}
+use Rattle.serde_json.specs.Written.{compact_text}
+use Rattle.wire_json.specs.Replies.{reply_data}
 use Rattle.wire_json.specs.ReplyForms.{plain_reply}
-use Rattle.wire_json.proofs.ReplyLemmas.{reply_data_has_float}
+use Rattle.wire_json.specs.WrittenReplies.{text_of}
+use Rattle.wire_json.proofs.LineFeedLemmas.{text_of-compact_text}
 use Rattle.wire_json.proofs.reply_lines.reply.Goals as goal
 
-pub returns : goal.returns
-returns c =
-    let is = c.in_ok-value.ensures in
-    let no_float : has_float (view c.in_ok-value.value) ≡ false =
-    ap has_float is ∙ reply_data_has_float (plain_reply c.args.reply.now) in
+-- the bytes are the text and a line feed
+ended : (c : goal.In_ok-push) → c.push.new.self.items
+    ≡ compact_text (reply_data (plain_reply c.args.reply.now)) ++ 10 ∷ []
+ended c =
     c.in_ok-push.ensures.items
-    ∙ ap (λ (text : List ℕ). text ++ 10 ∷ []) (c.in_ok-line.ensures.text no_float)
-    ∙ ap line_text is
+    ∙ ap (λ (text : List ℕ). text ++ 10 ∷ []) c.in_ok-line.ensures.text
+
+-- and that text stands before it
+text_of-line : (c : goal.In_ok-push) → text_of c.push.new.self.items
+    ≡ compact_text (reply_data (plain_reply c.args.reply.now))
+text_of-line c =
+    ap text_of (ended c) ∙ text_of-compact_text (reply_data (plain_reply c.args.reply.now))
+
+pub returns-clause-one_line : goal.returns-clause-one_line
+returns-clause-one_line c =
+    ended c ∙ ap (λ (text : List ℕ). text ++ 10 ∷ []) (sym (text_of-line c))
+
+pub returns-clause-utf8 : goal.returns-clause-utf8
+returns-clause-utf8 c =
+    subst IsUtf8 (sym c.in_ok-push.ensures.items)
+    (IsUtf8-append c.in_ok-line.line.items (10 ∷ []) c.in_ok-line.ensures.utf8
+    (IsUtf8-from_ascii (10 ∷ []) (search rules)))
+
+pub returns-clause-reads_back : goal.returns-clause-reads_back
+returns-clause-reads_back c =
+    ap read (text_of-line c ∙ sym c.in_ok-line.ensures.text) ∙ c.in_ok-line.ensures.reads_back

@@ -1,0 +1,11 @@
+//! The limits and defaults of lines.
+use sg_base::Weight;
+
+/// The most bytes of a line, without its line feed.
+pub const MOST_LINE_BYTES: usize = 65_536;
+
+/// The most digits of a weight that is given as a text.
+pub const MOST_WEIGHT_DIGITS: usize = 20;
+
+/// The weight of a suggestion that gives none.
+pub const DEFAULT_WEIGHT: Weight = 1;
