@@ -1,0 +1,42 @@
+-- The answer to a query over documents, of which each has one row at most. Source: the match and
+-- the score are those of Lucene's PrefixCompletionQuery and ContextQuery, one row a document is
+-- that of its TopSuggestDocsCollector; which row that is, is this project's own.
+use Rattle.std.specs.Prelude.{ℕ, ◌*◌, nat_eq, if◌then◌else◌, List, Option, None, option_map}
+use Rattle.std.specs.Prelude.{filter_map, slice_get, take}
+use Rattle.std.specs.List.{starts_with}
+use Rattle.sg_base.specs.Ranking.{rank_cmp, in_order}
+use Rattle.sg_base.specs.declared.rank.Rank.{Rank}
+use Rattle.sg_context.specs.Boosts.{boost_of}
+use Rattle.sg_context.specs.Queries.{PlainQuery}
+use Rattle.sg_paths.specs.Operations.{NumberedDocument}
+use Rattle.sg_paths.specs.Paths.{PlainPath, paths}
+
+-- the boost of a path that matches: its key begins with the query's, and its context has a boost
+abbrev pub path_boost : PlainQuery → PlainPath → Option ℕ
+path_boost query p =
+    if starts_with nat_eq p.key query.prefix then boost_of query.contexts p.context else None
+
+-- where a path of a document stands with a boost: its score is its weight times the boost
+abbrev pub rank_with : ℕ → PlainPath → ℕ → Rank
+rank_with seq p boost =
+    record { score = p.weight * boost; key = p.key; seq = seq; place = p.place }
+
+-- the rank of a path, if it matches
+abbrev pub path_rank : PlainQuery → ℕ → PlainPath → Option Rank
+path_rank query seq p = option_map (rank_with seq p) (path_boost query p)
+
+-- the ranks of the paths of a document that match
+abbrev pub matching_ranks : PlainQuery → NumberedDocument → List Rank
+matching_ranks query d = filter_map (path_rank query d.seq) (paths d.document)
+
+-- a document's row, the first of its ranks, if one of its paths matches
+abbrev pub document_row : PlainQuery → NumberedDocument → Option Rank
+document_row query d = slice_get (in_order rank_cmp (matching_ranks query d)) 0
+
+-- the rows of the documents, in rank order
+abbrev pub answer : PlainQuery → List NumberedDocument → List Rank
+answer query ds = in_order rank_cmp (filter_map (document_row query) ds)
+
+-- as many of them as are asked for, or all where there are fewer
+abbrev pub first_rows : PlainQuery → List NumberedDocument → List Rank
+first_rows query ds = take query.k (answer query ds)
