@@ -29,9 +29,13 @@ path_rank query seq p = option_map (rank_with seq p) (path_boost query p)
 abbrev pub matching_ranks : PlainQuery → NumberedDocument → List Rank
 matching_ranks query d = filter_map (path_rank query d.seq) (paths d.document)
 
+-- the first by rank, where there is one
+abbrev pub first_rank : List Rank → Option Rank
+first_rank ranks = slice_get (in_order rank_cmp ranks) 0
+
 -- a document's row, the first of its ranks, if one of its paths matches
 abbrev pub document_row : PlainQuery → NumberedDocument → Option Rank
-document_row query d = slice_get (in_order rank_cmp (matching_ranks query d)) 0
+document_row query d = first_rank (matching_ranks query d)
 
 -- the rows of the documents, in rank order
 abbrev pub answer : PlainQuery → List NumberedDocument → List Rank

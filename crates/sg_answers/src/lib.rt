@@ -3,7 +3,8 @@
 #![tactic(auto)]
 
 mod answers;
+mod candidate;
 mod live_document;
 
 pub use answers::first_rows;
-pub use live_document::LiveDocument;
+pub use live_document::{LiveDocument, document_with};

@@ -1,4 +1,9 @@
 //! Documents with their numbers, borrowed.
+ghost use Rattle.std.specs.Prelude.{◌≡◌, ◌<◌, ◌≤◌, ◌==◌, find, slice_get};
+ghost use Rattle.std.specs.Option.{option_copied};
+ghost use Rattle.std.specs.List.Sorted.{IsNonDecreasingBy, IsPartitionPoint};
+ghost use Rattle.sg_answers.specs.Scans.{with_number};
+
 use sg_paths::Document;
 use std::marker::Model;
 
@@ -16,4 +21,38 @@ impl<'p> Model for LiveDocument<'p> {
     ghost Value = { NumberedDocument };
 
     ghost view = { λ d. record { seq = d.seq; document = d.document.now } };
+}
+
+// How many documents have a lesser number.
+fn place_of(documents: &[LiveDocument<'_>], seq: u64) -> usize
+    requires { IsNonDecreasingBy (λ d. d.seq) documents.now }
+    ensures { IsPartitionPoint (λ d. d.seq < seq) (λ d. seq ≤ d.seq) documents.now result }
+{
+    documents.partition_point(|document| document.seq < seq)
+}
+
+fn document_at<'d, 'p>(
+    documents: &'d [LiveDocument<'p>],
+    at: usize,
+    seq: u64,
+) -> Option<&'d LiveDocument<'p>>
+    ensures { option_copied result ≡ with_number seq (slice_get documents.now at) }
+{
+    let document = documents.get(at)?;
+    if document.seq == seq {
+        Some(document)
+    } else {
+        None
+    }
+}
+
+/// The first document with a number, in logarithmic time.
+pub fn document_with<'d, 'p>(
+    documents: &'d [LiveDocument<'p>],
+    seq: u64,
+) -> Option<&'d LiveDocument<'p>>
+    requires rising { IsNonDecreasingBy (λ d. d.seq) documents.now }
+    ensures { option_copied result ≡ find (λ d. d.seq == seq) documents.now }
+{
+    document_at(documents, place_of(documents, seq), seq)
 }

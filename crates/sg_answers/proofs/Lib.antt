@@ -1,0 +1,4 @@
+pub mod FirstLemmas
+pub mod ScoreLemmas
+pub mod EntryLemmas
+pub mod NumberLemmas
