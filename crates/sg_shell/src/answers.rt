@@ -1,23 +1,14 @@
 //! The rows that a query prints.
-ghost use Rattle.std.specs.Prelude.{◌≡◌, IfOk, find, map, take, ◌==◌};
-ghost use Rattle.std.specs.Option.{option_copied};
+ghost use Rattle.std.specs.Prelude.{◌≡◌, IfOk, map, take};
+ghost use Rattle.std.specs.List.Sorted.{IsNonDecreasingBy};
 ghost use Rattle.sg_shell.specs.Answers.{text_at, row_of, rows_of};
 
-use sg_answers::{LiveDocument, first_rows};
+use sg_answers::{LiveDocument, document_with, first_rows};
 use sg_base::{Rank, Text};
 use sg_context::Query;
 use sg_paths::Suggestion;
 use std::alloc::{AllocError, Global};
 use wire_json::OutRow;
-
-fn document_with<'d, 'p>(
-    documents: &'d [LiveDocument<'p>],
-    seq: u64,
-) -> Option<&'d LiveDocument<'p>>
-    ensures { option_copied result ≡ find (λ d. d.seq == seq) documents.now }
-{
-    documents.iter().find(|document| document.seq == seq)
-}
 
 fn text_of(suggestions: &[Suggestion], place: u8) -> &str
     ensures { result.now ≡ text_at place suggestions.now }
@@ -45,6 +36,7 @@ fn printed_row(
     documents: &[LiveDocument<'_>],
     rank: &Rank,
 ) -> Result<OutRow, AllocError>
+    requires rising { IsNonDecreasingBy (λ d. d.seq) documents.now }
     ensures { IfOk result (λ row. row ≡ row_of documents.now rank.now) }
 {
     match document_with(documents, rank.seq) {
@@ -57,13 +49,14 @@ fn printed_row(
     }
 }
 
-/// The rows that a query prints, the first of the answer. Beside the search for them it looks for
-/// the document of each row.
+/// The rows that a query prints, of documents by number. Beside the search for them it takes, for
+/// each row, a look for its document by halving.
 pub fn rows_for(
     alloc: Global,
     query: &Query,
     documents: &[LiveDocument<'_>],
 ) -> Result<Vec<OutRow>, AllocError>
+    requires rising { IsNonDecreasingBy (λ d. d.seq) documents.now }
     ensures { IfOk result (λ rows. rows.items ≡ rows_of query.now documents.now) }
 {
     let ranks = first_rows(alloc, query, documents)?;
