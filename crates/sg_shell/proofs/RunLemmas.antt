@@ -2,9 +2,9 @@
 use Rattle.std.proofs.Common.{◌≡◌, ◌≤◌, ◌<◌, ◌+◌, ℕ, Bool, true, false, cond, nat_eq, nat_le}
 use Rattle.std.proofs.Common.{List, [], ◌∷◌, ◌++◌, length, map, filter, refl}
 use Rattle.std.proofs.Common.{sym, ap, ◌∙◌, subst, arith, append-nil, length-append, add-zero}
-use Rattle.std.proofs.Common.{zero-add, inl, inr, None}
+use Rattle.std.proofs.Common.{zero-add, inl, inr, Some, None}
 use Rattle.std.specs.List.{All, filter_map}
-use Rattle.std.proofs.lemmas.List.Elements.{All-cons, filter_map-append}
+use Rattle.std.proofs.lemmas.List.Elements.{All-cons, All-head, All-tail, filter_map-append}
 use Rattle.std.proofs.lemmas.Bool.Decides.{nat_tests}
 use Rattle.sg_paths.specs.Operations.{Operation}
 use Rattle.index_core.specs.Histories.{HistoryEvent, accept, Record, accepted}
@@ -12,11 +12,15 @@ use Rattle.index_core.specs.Histories.{buffered, accepted_number}
 use Rattle.index_core.specs.Calls.{empty_record, with_event, with_operation, after_freeze}
 use Rattle.index_core.specs.Calls.{after_accept, after_begin}
 use Rattle.index_core.specs.declared.limits.TheConstants.{MOST_OPERATIONS, MOST_BUFFERED}
-use Rattle.wire_json.specs.Commands.{Command, accepts, suggests, refused}
+use Rattle.wire_json.specs.Commands.{Command, blank, accepts, suggests, opens, closes, flushes}
+use Rattle.wire_json.specs.Commands.{merges, barrier, refused}
+use Rattle.wire_json.specs.CommandForms.{IsRead}
+use Rattle.sg_shell.specs.Lines.{lines_of}
 use Rattle.sg_shell.specs.Runs.{Line, Said, said, caller, step, after_view}
 use Rattle.sg_shell.specs.Runs.{transcript_from, input_lines}
 use Rattle.sg_shell.specs.Runs.{transcript_of, output_of}
 use Rattle.sg_shell.specs.Sessions.{wants_reply, MayReply, Session}
+use Rattle.sg_shell.proofs.ReadLemmas.{lines-read}
 use Rattle.sg_shell.proofs.SessionLemmas.{at_most, Follows, follows-nil, follows-cons}
 use Rattle.sg_shell.proofs.SessionLemmas.{next-numbered, next-full, next-rows, next-refused}
 
@@ -222,26 +226,33 @@ lines-accept_if : (full : Bool) (n lane : ℕ) (operation : Operation) (r : Reco
 lines-accept_if true n lane operation r t is = rw is refl
 lines-accept_if false n lane operation r t is = rw is refl
 
--- each line that wants a reply has one
-lines-step : (n : ℕ) (c : Command) (r : Record) (t : List Said) (lines : List Line)
+-- each line that wants a reply has one, where it asks for what is read
+lines-step : (n : ℕ) (c : Command) (r : Record) (t : List Said) (lines : List Line) → IsRead c
     → map (λ e. e.line) t ≡ filter (λ l. wants_reply l.command) lines
     → map (λ e. e.line) (told n c r t)
     ≡ filter (λ l. wants_reply l.command) (record { number = n; command = c } ∷ lines)
-lines-step n (accepts lane operation) r t lines later =
+lines-step n blank r t lines read later = later
+lines-step n (accepts lane operation) r t lines read later =
     lines-accept_if (nat_le MOST_OPERATIONS (accepted r.history)) n lane operation r t refl
     ∙ ap (λ (ls : List Line). record { number = n; command = accepts lane operation } ∷ ls) later
-lines-step n (suggests lane query None) r t lines later =
+lines-step n (suggests lane query None) r t lines read later =
     ap (λ (ls : List Line). record { number = n; command = suggests lane query None } ∷ ls) later
-lines-step n (refused kind) r t lines later =
+lines-step n (suggests lane query (Some view)) r t lines read later = cc
+lines-step n (refused kind) r t lines read later =
     ap (λ (ls : List Line). record { number = n; command = refused kind } ∷ ls) later
-lines-step n other r t lines later = later
+lines-step n (opens lane name) r t lines read later = absurd read
+lines-step n (closes lane name) r t lines read later = absurd read
+lines-step n (flushes lane) r t lines read later = absurd read
+lines-step n (merges lane) r t lines read later = absurd read
+lines-step n barrier r t lines read later = absurd read
 
-lines-transcript : (r : Record) (lines : List Line)
+lines-transcript : (r : Record) (lines : List Line) → All (λ l. IsRead l.command) lines
     → map (λ e. e.line) (transcript_from r lines) ≡ filter (λ l. wants_reply l.command) lines
-lines-transcript r [] = refl
-lines-transcript r (line ∷ lines) =
-    lines-step line.number line.command r _ lines (lines-transcript
-    (step line.number line.command r).after lines)
+lines-transcript r [] read = refl
+lines-transcript r (line ∷ lines) read =
+    lines-step line.number line.command r _ lines (All-head (λ l. IsRead l.command) line lines read)
+    (lines-transcript (step line.number line.command r).after lines
+    (All-tail (λ l. IsRead l.command) line lines read))
 
 -- ---- the session
 
@@ -256,7 +267,7 @@ output_of-session input =
       transcript = transcript_of input;
       journal = journal;
       is_session = record {
-        replied = lines-transcript empty_record lines;
+        replied = lines-transcript empty_record lines (lines-read 1 (lines_of input));
         written = refl;
         answers = answers-lines empty_record lines;
         numbers = follows.numbers;

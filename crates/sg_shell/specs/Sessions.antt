@@ -7,19 +7,17 @@ use Rattle.sg_context.specs.Queries.{PlainQuery}
 use Rattle.sg_paths.specs.Operations.{Operation}
 use Rattle.sg_paths.specs.LiveDocuments.{live_documents}
 use Rattle.index_core.specs.declared.limits.TheConstants.{MOST_OPERATIONS}
-use Rattle.wire_json.specs.Commands.{Command, accepts, suggests, refused}
+use Rattle.wire_json.specs.Commands.{Command, blank, accepts, suggests, refused}
 use Rattle.wire_json.specs.Replies.{Reply, numbered, rows, failed}
 use Rattle.wire_json.specs.Rows.{Row}
 use Rattle.wire_json.specs.declared.errors.ErrorKind.TheVariants.{Full}
 use Rattle.sg_shell.specs.Answers.{rows_of}
 use Rattle.sg_shell.specs.Runs.{Said, input_lines, output}
 
--- whether a line has a reply; a blank one has none, and no line asks for the other commands today
+-- whether a line has a reply: each that isn't blank
 abbrev pub wants_reply : Command → Bool
-wants_reply (accepts lane operation) = true
-wants_reply (suggests lane query None) = true
-wants_reply (refused kind) = true
-wants_reply other = false
+wants_reply blank = false
+wants_reply other = true
 
 -- the sequence number that a reply prints
 abbrev pub number_printed : Reply → Option ℕ
@@ -48,8 +46,8 @@ abbrev pub IsFull : Said → Type 0
 IsFull e = IsRefusedAsFull e.line.command e.line.number e.reply
 
 -- The replies that a line may have, by what it asks for: its own error exactly, else of its kind.
--- Rows are all that were asked for, or all there are: none is cut off. A blank line has no reply,
--- and no line asks for the other commands today.
+-- Rows are all that were asked for, or all there are: none is cut off. No line asks for the other
+-- commands today.
 abbrev pub MayReply : Command → ℕ → Reply → Type 0
 MayReply (accepts lane operation) line r =
     ((seq : ℕ) × (r ≡ numbered line seq)) ⊎ (r ≡ failed line Full)
