@@ -1,1 +1,5 @@
+pub mod MemberLemmas
+pub mod SuggestedLemmas
+pub mod ReadyLemmas
+pub mod CommandLemmas
 pub mod ReplyLemmas

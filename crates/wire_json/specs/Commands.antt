@@ -41,15 +41,18 @@ abbrev pub key_or_none : Keyed → List ℕ
 key_or_none (Ok k) = k
 key_or_none (Err fault) = []
 
--- the suggestion of an entry, of one without an error
-abbrev pub suggestion_of : Analyzer → Entry → PlainSuggestion
-suggestion_of analyzer e =
+-- the suggestion of an entry with its key, of one without an error
+abbrev pub suggestion_by : Entry → Keyed → PlainSuggestion
+suggestion_by e k =
     record {
       text = e.text;
-      key = key_or_none (input_key analyzer e.text);
+      key = key_or_none k;
       weight = unwrap_or (weight_of e.given) DEFAULT_WEIGHT;
       contexts = filter_map as_str (contexts_of e.given);
     }
+
+abbrev pub suggestion_of : Analyzer → Entry → PlainSuggestion
+suggestion_of analyzer e = suggestion_by e (input_key analyzer e.text)
 
 -- the document of suggestions under an id
 abbrev pub document_of : Analyzer → List ℕ → List Data → PlainDocument

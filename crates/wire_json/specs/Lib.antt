@@ -3,8 +3,11 @@ pub mod Replies
 pub mod ReplyForms
 pub mod Members
 pub mod Suggested
+pub mod EntryForms
 pub mod Asked
 pub mod Forms
 pub mod LineErrors
+pub mod ReadForms
 pub mod Commands
 pub mod CommandForms
+pub mod ReadyForms

@@ -37,9 +37,17 @@ pub record Entry : Type 0 where
   pub text : List ℕ
   pub given : Data
 
--- one entry a text, in order over all suggestions
+-- the entry of a text in a suggestion
+abbrev pub entry_of : Data → List ℕ → Entry
+entry_of d t = record { text = t; given = d }
+
+-- one entry a text
+abbrev pub entries_in : Data → List Entry
+entries_in d = map (entry_of d) (texts_of d)
+
+-- the entries of all suggestions in order
 abbrev pub entries_of : List Data → List Entry
-entries_of = flat_map (λ d. map (λ t. record { text = t; given = d }) (texts_of d))
+entries_of = flat_map entries_in
 
 -- an ASCII digit
 abbrev pub is_digit : ℕ → Bool
@@ -54,10 +62,14 @@ are_digits s =
 abbrev pub number_of_digits : List ℕ → Option ℕ
 number_of_digits s = if are_digits s then Some (digits_value 10 s) else None
 
--- a weight as it is given: a whole number, or digits, up to the greatest weight
+-- a number up to the greatest weight
+abbrev pub weight_upto : ℕ → Option ℕ
+weight_upto n = if nat_le n MOST_WEIGHT then Some n else None
+
+-- a weight as it is given: a whole number, or digits
 abbrev pub weight_given : Data → Option ℕ
 weight_given d =
-    option_and_then (λ n. if nat_le n MOST_WEIGHT then Some n else None)
+    option_and_then weight_upto
     (option_or (whole_of d) (option_and_then number_of_digits (as_str d)))
 
 -- the weight of a suggestion, if it is one; 1 where none is given

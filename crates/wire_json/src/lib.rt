@@ -2,15 +2,20 @@
 //! line as bytes, a command and a reply as plain data, and JSON by `serde_json`'s definitions.
 #![tactic(auto)]
 
+mod asked;
+mod building;
+mod checks;
 mod commands;
 mod error_names;
 mod errors;
 mod forms;
 mod keys;
 mod limits;
+mod members;
 mod reading;
 mod replies;
 mod reply_lines;
+mod suggested;
 
 pub use commands::Command;
 pub use errors::{ErrorKind, LineError};

@@ -1,0 +1,22 @@
+use Rattle.std.proofs.Common.{map}
+use Rattle.serde_json.specs.View.{view}
+use Rattle.wire_json.specs.Asked.{is_asked, is_reserved_asked, has_wrong_boost}
+use Rattle.wire_json.proofs.MemberLemmas.{all_at, none_at}
+use Rattle.wire_json.proofs.ReadyLemmas.{all_asked}
+use Rattle.wire_json.proofs.building.query_contexts.Goals as goal
+
+pub query_context-requires-clause-asked : goal.query_context-requires-clause-asked
+query_context-requires-clause-asked c =
+    all_at is_asked c.args.values.now c.loop-value.value-index c.value-item.result
+    c.loop-value-test.true c.value-item.is
+    (all_asked (map view c.args.values.now) c.requires.contexts)
+
+pub query_context-requires-clause-not_reserved : goal.query_context-requires-clause-not_reserved
+query_context-requires-clause-not_reserved c =
+    none_at is_reserved_asked c.args.values.now c.loop-value.value-index c.value-item.result
+    c.loop-value-test.true c.value-item.is c.requires.reserved
+
+pub query_context-requires-clause-boost : goal.query_context-requires-clause-boost
+query_context-requires-clause-boost c =
+    none_at has_wrong_boost c.args.values.now c.loop-value.value-index c.value-item.result
+    c.loop-value-test.true c.value-item.is c.requires.boosts

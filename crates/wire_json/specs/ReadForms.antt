@@ -1,0 +1,36 @@
+-- The code's forms, which borrow from a line's value, as plain data, and what the code knows of a
+-- form without an error. No public clause cites it.
+use Rattle.std.specs.Prelude.{◌≡◌, true, map, option_map, ⊤}
+use Rattle.serde_json.specs.View.{view}
+use Rattle.wire_json.specs.Suggested.{entries_of}
+use Rattle.wire_json.specs.Forms as plain
+use Rattle.wire_json.specs.EntryForms.{plain_entry}
+use Rattle.wire_json.specs.declared.forms.GivenChange.{GivenChange}
+use Rattle.wire_json.specs.declared.forms.GivenQuery.{GivenQuery}
+use Rattle.wire_json.specs.declared.forms.Form.{Form}
+use Rattle.wire_json.specs.declared.forms.Form.TheVariants.{Change, Delete, Suggest}
+
+abbrev pub plain_change : GivenChange → plain.Form
+plain_change given =
+    plain.change given.how (option_map (λ v. view v.now) given.lane) given.id.now
+    (map view given.suggestions.now)
+
+abbrev pub plain_query : GivenQuery → plain.Form
+plain_query given =
+    plain.suggest (option_map (λ v. view v.now) given.lane) given.prefix.now
+    (option_map (λ v. view v.now) given.k) (map view given.contexts.now)
+
+abbrev pub plain_form : Form → plain.Form
+plain_form (Change given) = plain_change given
+plain_form (Delete lane id) = plain.delete (option_map (λ v. view v.now) lane) id.now
+plain_form (Suggest given) = plain_query given
+
+-- the entries are those of the suggestions, 1 to 16
+pub record EntriesFit (given : GivenChange) : Type 0 where
+  pub are : map plain_entry given.entries.items ≡ entries_of (map view given.suggestions.now)
+  pub document : plain.make_a_document (map view given.suggestions.now) ≡ true
+
+abbrev pub HasItsEntries : Form → Type 0
+HasItsEntries (Change given) = EntriesFit given
+HasItsEntries (Delete lane id) = ⊤
+HasItsEntries (Suggest given) = ⊤
