@@ -1,10 +1,10 @@
 -- What suggestions have in their contexts: an entry over which another is kept doesn't come first,
 -- since every boost is at least 1, and of one suggestion the greatest boost does.
-use Rattle.std.proofs.Common.{◌≡◌, ◌⊎◌, inl, inr, ℕ, ◌+◌, ◌*◌, ◌<◌, ◌≤◌, Bool, true, false, ◌&&◌, ◌||◌}
-use Rattle.std.proofs.Common.{List, [], ◌∷◌, ◌++◌, map, Option, Some, None, refl, sym, ap, ◌∙◌, arith}
-use Rattle.std.proofs.Common.{length, get_or, drop, drop-cons, add-one}
+use Rattle.std.proofs.Common.{◌≡◌, ◌⊎◌, inl, inr, ℕ, ◌+◌, ◌*◌, ◌<◌, ◌≤◌, Bool, true, false}
+use Rattle.std.proofs.Common.{◌&&◌, ◌||◌, List, [], ◌∷◌, map, Option, Some, None, refl}
+use Rattle.std.proofs.Common.{sym, ap, ◌∙◌, arith, length, get_or, drop, drop-cons, add-one}
 use Rattle.std.proofs.Math.Nat.{mul-le-mul_right}
-use Rattle.std.specs.Prelude.{nat_eq, nat_lt, filter_map, filter, not, option_map, All, IfSome}
+use Rattle.std.specs.Prelude.{nat_eq, nat_lt, filter_map, option_map, All}
 use Rattle.std.specs.List.{starts_with}
 use Rattle.std.specs.Ordering.{is_lt}
 use Rattle.std.specs.Cmp.Lexicographic.{bytes_decides}
@@ -143,7 +143,8 @@ soonest-given h (text ∷ texts) = soonest-distinct h (text ∷ texts)
 -- the first of them by the contexts as they are given
 by_contexts : (query : PlainQuery) (seq place : ℕ) (s : PlainSuggestion)
     → first_entry query seq place (s ∷ [])
-    ≡ soonest rank_cmp (λ text. path_rank query seq (entry place s text)) (given_contexts s.contexts)
+    ≡ soonest rank_cmp (λ text. path_rank query seq (entry place s text))
+    (given_contexts s.contexts)
 by_contexts query seq place s =
     let entries = map (entry place s) (contexts_of s.contexts) in
     ap (λ es. first_rank (filter_map (path_rank query seq) es)) (append-nil entries)

@@ -1,5 +1,5 @@
 -- The first of a list in order, where only equals tie: how it is found, and what it can't be.
-use Rattle.std.proofs.Common.{◌≡◌, ◌⊎◌, inl, inr, Bool, true, false, cond, not, List, [], ◌∷◌}
+use Rattle.std.proofs.Common.{◌≡◌, Bool, true, false, cond, not, List, [], ◌∷◌}
 use Rattle.std.proofs.Common.{◌++◌, suc, Option, Some, None, refl, sym, ap, ◌∙◌, arith, Ordering}
 use Rattle.std.specs.Prelude.{filter, filter_map, slice_get, All, Any, Contains}
 use Rattle.std.specs.List.{list_any}
@@ -240,9 +240,10 @@ module _ {X : Type 0} (R : X → X → Ordering) (total : IsTotalOrder R)
       let stays : Contains (filter keep ys) y =
       All-contains (λ v. keep v ≡ true → Contains (filter keep ys) v) ys y (passes keep ys) there
       (ap not beaten) in
-      let kept : sooner R (soonest R h (filter keep ys)) (h y) ≡ soonest R h (filter keep ys) =
-      All-contains (λ v. sooner R (soonest R h (filter keep ys)) (h v) ≡ soonest R h (filter keep ys))
-      (filter keep ys) y (none_sooner h (filter keep ys)) stays in
+      let first_kept = soonest R h (filter keep ys) in
+      let kept : sooner R first_kept (h y) ≡ first_kept =
+      All-contains (λ v. sooner R first_kept (h v) ≡ first_kept) (filter keep ys) y
+      (none_sooner h (filter keep ys)) stays in
       rw is at kept
 
   first_at : {Y : Type 0} (h : Y → Option X) (over : Y → Y → Bool) → Earlier R h over

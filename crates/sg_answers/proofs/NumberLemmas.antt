@@ -1,17 +1,25 @@
 -- Documents whose numbers don't fall: where a number is found, and that live documents are such.
-use Rattle.std.proofs.Common.{◌≡◌, ◌⊎◌, inl, inr, ℕ, zero, suc, ◌+◌, ◌<◌, ◌≤◌, ◌==◌, Bool, true}
-use Rattle.std.proofs.Common.{false, cond, not, List, [], ◌∷◌, length, get_or, Option, Some, None}
+use Rattle.std.proofs.Common.{◌≡◌, ◌⊎◌, inl, inr, ℕ, zero, suc, ◌+◌, ◌<◌, ◌≤◌, ◌==◌, true}
+use Rattle.std.proofs.Common.{false, not, List, [], ◌∷◌, Option, Some, None}
 use Rattle.std.proofs.Common.{◌++◌, refl, arith}
-use Rattle.std.specs.Prelude.{find, take, slice_get, All, option_map, option_to_list}
-use Rattle.std.specs.List.{AllWithin}
+use Rattle.std.specs.Prelude.{find, nat_lt, take, slice_get, All, option_map, option_to_list}
 use Rattle.std.specs.List.Sorted.{IsNonDecreasingBy, IsPartitionPoint}
-use Rattle.std.proofs.lemmas.Bool.{ne_eqb, eq-eqb, cases_eq}
+use Rattle.std.proofs.lemmas.Bool.{ltb-true, ltb-false, ne_eqb, eq-eqb, cases_eq}
 use Rattle.std.proofs.lemmas.List.Elements.{All-nil, All-cons, All-head, All-tail, All-weaker}
 use Rattle.std.proofs.lemmas.List.Kept.{IsNonDecreasingBy-filter}
 use Rattle.sg_paths.specs.Documents.{PlainDocument}
 use Rattle.sg_paths.specs.Operations.{Operation, added_document, NumberedDocument, documents_from}
 use Rattle.sg_paths.specs.LiveDocuments.{is_deleted, live_documents}
 use Rattle.sg_answers.specs.Scans.{with_number}
+
+-- what a test of the numbers parts
+pub parted : (n i : ℕ) (ds : List NumberedDocument)
+    → IsPartitionPoint (λ d. nat_lt d.seq n ≡ true) (λ d. nat_lt d.seq n ≡ false) ds i
+    → IsPartitionPoint (λ d. d.seq < n) (λ d. n ≤ d.seq) ds i
+parted n i ds parts = (
+  λ k d low high. ltb-true _ n (parts.0 k d low high),
+  λ k d low high. ltb-false _ n (parts.1 k d low high),
+)
 
 find-none : (n : ℕ) (ds : List NumberedDocument) → All (λ d. n < d.seq) ds
     → find (λ d. d.seq == n) ds ≡ None
@@ -45,8 +53,7 @@ find-at n (suc i) (d ∷ ds) rising parts =
     let less : d.seq < n = parts.0 0 d (omega arith) (omega arith) in
     let differs : (d.seq == n) ≡ false = ne_eqb d.seq n (λ same. omega (arith, same)) in
     rw differs (find-at n i ds
-    (λ j k e up within. rising (suc j) (suc k) e (omega (arith, up)) (omega (arith, within)))
-    (
+    (λ j k e up within. rising (suc j) (suc k) e (omega (arith, up)) (omega (arith, within))) (
       λ k e low high. parts.0 (suc k) e (omega arith) (omega (arith, high)),
       λ k e low high. parts.1 (suc k) e (omega (arith, low)) (omega (arith, high)),
     ))

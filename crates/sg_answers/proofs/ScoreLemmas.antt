@@ -1,14 +1,12 @@
 -- Ranks of one document and key: which stands first, and the greatest boost of several.
-use Rattle.std.proofs.Common.{◌≡◌, ◌⊎◌, inl, inr, ℕ, ◌*◌, ◌<◌, ◌≤◌, Bool, true, false, cond, max, List}
-use Rattle.std.proofs.Common.{[], ◌∷◌, Option, Some, None, refl, sym, ap, ◌∙◌, arith, ⊎_elim}
+use Rattle.std.proofs.Common.{◌≡◌, ◌⊎◌, inl, inr, ℕ, ◌*◌, ◌<◌, ◌≤◌, true, max}
+use Rattle.std.proofs.Common.{List, [], ◌∷◌, Option, Some, None, refl, sym, ap, ◌∙◌, arith, ⊎_elim}
 use Rattle.std.proofs.Math.Nat.{mul-le-mul_left}
-use Rattle.std.specs.Prelude.{fold, filter_map, nat_lt, option_map}
+use Rattle.std.specs.Prelude.{fold, filter_map, option_map}
 use Rattle.std.specs.List.{reduce}
 use Rattle.std.specs.Ordering.{is_lt, nat_cmp}
-use Rattle.std.specs.declared.cmp.Ordering.TheVariants.{Less, Equal, Greater}
-use Rattle.std.specs.Cmp.Lexicographic.{slice_cmp}
-use Rattle.std.proofs.lemmas.Bool.{cases_lt, lt-ltb, le-ltb}
-use Rattle.std.proofs.lemmas.Bool.Decides.{nat_tests}
+use Rattle.std.specs.declared.cmp.Ordering.TheVariants.{Less}
+use Rattle.std.proofs.lemmas.Bool.{cases_lt, lt-ltb}
 use Rattle.std.proofs.lemmas.Cmp.{tied_itself, nat_cmp_total, nat_list_cmp_total}
 use Rattle.sg_base.specs.Ranking.{rank_cmp}
 use Rattle.sg_base.specs.declared.rank.Rank.{Rank}
@@ -91,38 +89,42 @@ abbrev pub with_boost : List ℕ → ℕ → ℕ → ℕ → ℕ → Rank
 with_boost key seq place weight boost = rank_at key seq (weight * boost) place
 
 module _ {T : Type 0} (boost : T → Option ℕ) (key : List ℕ) (seq place weight : ℕ) where
+  -- what it has of some boost
+  abbrev of_boost : ℕ → Rank
+  of_boost = with_boost key seq place weight
+
   abbrev ranked : T → Option Rank
-  ranked t = option_map (with_boost key seq place weight) (boost t)
+  ranked t = option_map of_boost (boost t)
 
   more_at : (n : ℕ) (t : T) (ts : List T) (o : Option ℕ) → boost t ≡ o
-      → ((m : ℕ) → sooner rank_cmp (Some (with_boost key seq place weight m)) (soonest rank_cmp ranked ts)
-      ≡ Some (with_boost key seq place weight (fold max m (filter_map boost ts))))
-      → sooner rank_cmp (Some (with_boost key seq place weight n)) (soonest rank_cmp ranked (t ∷ ts))
-      ≡ Some (with_boost key seq place weight (fold max n (filter_map boost (t ∷ ts))))
+      → ((m : ℕ) → sooner rank_cmp (Some (of_boost m)) (soonest rank_cmp ranked ts)
+      ≡ Some (of_boost (fold max m (filter_map boost ts))))
+      → sooner rank_cmp (Some (of_boost n)) (soonest rank_cmp ranked (t ∷ ts))
+      ≡ Some (of_boost (fold max n (filter_map boost (t ∷ ts))))
   more_at n t ts None is more = rw is (more n)
   more_at n t ts (Some m) is more =
       rw is (sym (sooner-assoc rank_cmp rank_cmp_total rank_cmp_exact
-      (Some (with_boost key seq place weight n)) (Some (with_boost key seq place weight m))
+      (Some (of_boost n)) (Some (of_boost m))
       (soonest rank_cmp ranked ts))
       ∙ (ap (λ o. sooner rank_cmp o (soonest rank_cmp ranked ts))
       (by_boosts key seq place weight n m) ∙ more (max n m)))
 
   more_boosts : (n : ℕ) (ts : List T)
-      → sooner rank_cmp (Some (with_boost key seq place weight n)) (soonest rank_cmp ranked ts)
-      ≡ Some (with_boost key seq place weight (fold max n (filter_map boost ts)))
+      → sooner rank_cmp (Some (of_boost n)) (soonest rank_cmp ranked ts)
+      ≡ Some (of_boost (fold max n (filter_map boost ts)))
   more_boosts n [] = refl
   more_boosts n (t ∷ ts) = more_at n t ts (boost t) refl (λ m. more_boosts m ts)
 
   greatest_at : (t : T) (ts : List T) (o : Option ℕ) → boost t ≡ o
       → soonest rank_cmp ranked ts
-      ≡ option_map (with_boost key seq place weight) (reduce max (filter_map boost ts))
+      ≡ option_map of_boost (reduce max (filter_map boost ts))
       → soonest rank_cmp ranked (t ∷ ts)
-      ≡ option_map (with_boost key seq place weight) (reduce max (filter_map boost (t ∷ ts)))
+      ≡ option_map of_boost (reduce max (filter_map boost (t ∷ ts)))
   greatest_at t ts None is later = rw is later
   greatest_at t ts (Some n) is later = rw is (more_boosts n ts)
 
   -- of several boosts the greatest stands first
   pub greatest_first : (ts : List T) → soonest rank_cmp ranked ts
-      ≡ option_map (with_boost key seq place weight) (reduce max (filter_map boost ts))
+      ≡ option_map of_boost (reduce max (filter_map boost ts))
   greatest_first [] = refl
   greatest_first (t ∷ ts) = greatest_at t ts (boost t) refl (greatest_first ts)

@@ -1,6 +1,7 @@
--- The answer to a query over documents, of which each has one row at most. Source: the match and
--- the score are those of Lucene's PrefixCompletionQuery and ContextQuery, one row a document is
--- that of its TopSuggestDocsCollector; which row that is, is this project's own.
+-- The answer to a query over documents, each of which has one row at most. Source: keys match as in
+-- Lucene's PrefixCompletionQuery, and a document has one row as in its TopSuggestDocsCollector; the
+-- score is that of Elasticsearch's context suggester. Which row it is, and that a weight of 0 has
+-- the score 0, is this project's own.
 use Rattle.std.specs.Prelude.{ℕ, ◌*◌, nat_eq, if◌then◌else◌, List, Option, None, option_map}
 use Rattle.std.specs.Prelude.{filter_map, slice_get, take}
 use Rattle.std.specs.List.{starts_with}

@@ -1,8 +1,8 @@
 //! The answer to a query, by a scan over all documents.
-ghost use Rattle.std.specs.Prelude.{◌≡◌, ◌≤◌, [], ◌∷◌, IfOk, length, filter_map, map};
+ghost use Rattle.std.specs.Prelude.{◌≡◌, ◌≤◌, [], ◌∷◌, IfOk, length, filter_map};
 ghost use Rattle.sg_paths.specs.declared.limits.TheConstants.{MOST_SUGGESTIONS};
 ghost use Rattle.sg_context.specs.Queries.{IsQuery};
-ghost use Rattle.sg_answers.specs.Answers.{document_row, answer, first_rows};
+ghost use Rattle.sg_answers.specs.Answers.{document_row, first_rows};
 ghost use Rattle.sg_answers.specs.Scans.{given_contexts, greatest_boost, first_entry};
 
 use crate::candidate::{Candidate, sooner};
@@ -40,17 +40,14 @@ fn candidate_of<'d>(
 ) -> Option<Candidate<'d>>
     ensures { result ≡ first_entry query.now seq place (suggestion.now ∷ []) }
 {
-    if !suggestion
-        .key
-        .as_slice()
-        .starts_with(query.prefix.as_slice())
-    {
+    let key = &suggestion.key;
+    if !key.as_slice().starts_with(query.prefix.as_slice()) {
         return None;
     }
     let boost = greatest_boost(query.contexts.items(), suggestion.contexts.items())?;
     Some(Candidate {
         score: u64::from(suggestion.weight) * u64::from(boost),
-        key: &suggestion.key,
+        key,
         seq,
         place,
     })
@@ -108,8 +105,8 @@ fn ranks_of(alloc: Global, rows: &[Candidate<'_>]) -> Result<Vec<Rank>, AllocErr
 }
 
 /// The first rows of the answer, as many as the query asks for. Looks at each suggestion of each
-/// document once, and at each of its contexts where its key matches; sorts the documents that match
-/// by their rows, and copies the keys of the rows that it answers.
+/// document once, and at each of its contexts where its key matches; sorts what matched, one row a
+/// document, and copies the keys of the rows that it answers alone.
 pub fn first_rows(
     alloc: Global,
     query: &Query,
@@ -117,6 +114,7 @@ pub fn first_rows(
 ) -> Result<Vec<Rank>, AllocError>
     ensures { IfOk result (λ rows. rows.items ≡ first_rows query.now documents.now) }
 {
+    // A field is read first: with it the query's limits are known, which the rows ask for.
     let most = query.k as usize;
     let mut rows = rows_of(alloc, query, documents)?;
     rows.sort()?;

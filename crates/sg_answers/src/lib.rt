@@ -8,3 +8,6 @@ mod live_document;
 
 pub use answers::first_rows;
 pub use live_document::{LiveDocument, document_with};
+
+#[cfg(test)]
+mod tests;

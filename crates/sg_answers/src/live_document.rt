@@ -7,7 +7,7 @@ ghost use Rattle.sg_answers.specs.Scans.{with_number};
 use sg_paths::Document;
 use std::marker::Model;
 
-/// A document of a piece, with the number of the operation that added it.
+/// A document with the number of the operation that added it.
 #[derive(Drop)]
 pub struct LiveDocument<'p> {
     /// From 1.

@@ -31,15 +31,12 @@ pub returns : goal.returns
 returns c =
     let s = c.args.suggestion.now in
     let query = c.args.query.now in
+    let n = c.in_ok-boost.boost in
     let starts : starts_with nat_eq s.key query.prefix ≡ true =
     rw (← c.suggestion.view_is, ← c.query.view_is) (cc) in
-    let boost : greatest_boost query.contexts (given_contexts s.contexts) ≡ Some c.in_ok-boost.boost =
+    let boost : greatest_boost query.contexts (given_contexts s.contexts) ≡ Some n =
     rw (← c.suggestion.view_is, ← c.query.view_is)
     (rw (← c.items.ensures, ← c.items-2.ensures)
     (sym c.greatest_boost.ensures ∙ c.in_ok-boost.was)) in
-    rw (
-      c.from.ensures,
-      c.from-2.ensures,
-      first_entry-matching query c.args.seq c.args.place s (Some c.in_ok-boost.boost) starts boost,
-    )
-    (rw (← c.suggestion.view_is) refl)
+    let first = first_entry-matching query c.args.seq c.args.place s (Some n) starts boost in
+    rw (c.from.ensures, c.from-2.ensures, first) (rw (← c.suggestion.view_is) refl)
