@@ -1,8 +1,9 @@
 -- What the core's calls leave open, and what a view of all operations holds.
 use Rattle.std.proofs.Common.{◌≡◌, ℕ, Bool, true, false, cond, nat_eq, List}
-use Rattle.std.proofs.Common.{length, Some, refl, sym, ap, ◌∙◌, append-nil}
+use Rattle.std.proofs.Common.{length, Some, None, refl, sym, ap, ◌∙◌, append-nil}
 use Rattle.std.proofs.Common.{add-zero}
 use Rattle.std.proofs.Math.Seq.{take-length}
+use Rattle.sg_context.specs.Queries.{PlainQuery}
 use Rattle.sg_paths.specs.Operations.{Operation}
 use Rattle.sg_paths.specs.LiveDocuments.{live_documents}
 use Rattle.index_core.specs.Histories.{View, Record, accepted, buffered, open_views}
@@ -49,14 +50,15 @@ parts_hold r new parts counted begun is holds =
     holds.operations ∙ rw (upto, journal) (take-length r.journal)
 
 -- so the rows of the view are those of the journal
-pub rows-view : (line upto : ℕ) (prefix : List ℕ) (operations journal : List Operation)
+pub rows-view : (line upto : ℕ) (query : PlainQuery) (operations journal : List Operation)
     (counted : ℕ)
     (given shown : List Row) → upto ≡ counted → counted ≡ length journal → operations ≡ journal
-    → given ≡ shown → shown ≡ rows_of prefix (live_documents operations (length operations))
-    → Some (rows line upto given) ≡ Some (rows line counted (rows_of prefix
-    (live_documents journal counted)))
-rows-view line upto prefix operations journal counted given shown printed count holds same is =
-    let whole : given ≡ rows_of prefix (live_documents journal counted) =
-    same ∙ (is ∙ (ap (λ ops. rows_of prefix (live_documents ops (length ops))) holds
-    ∙ ap (λ n. rows_of prefix (live_documents journal n)) (sym count))) in
-    ap (λ n. Some (rows line n given)) printed ∙ ap (λ rs. Some (rows line counted rs)) whole
+    → given ≡ shown → shown ≡ rows_of query (live_documents operations (length operations))
+    → Some (rows line upto given None) ≡ Some (rows line counted (rows_of query
+    (live_documents journal counted)) None)
+rows-view line upto query operations journal counted given shown printed count holds same is =
+    let whole : given ≡ rows_of query (live_documents journal counted) =
+    same ∙ (is ∙ (ap (λ ops. rows_of query (live_documents ops (length ops))) holds
+    ∙ ap (λ n. rows_of query (live_documents journal n)) (sym count))) in
+    ap (λ n. Some (rows line n given None)) printed
+    ∙ ap (λ rs. Some (rows line counted rs None)) whole

@@ -2,6 +2,7 @@ pub mod LineLemmas
 pub mod MoveLemmas
 pub mod LiveLemmas
 pub mod ReplyLemmas
+pub mod ReadLemmas
 pub mod SessionLemmas
 pub mod RunLemmas
 pub mod EngineLemmas

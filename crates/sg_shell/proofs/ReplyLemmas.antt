@@ -8,10 +8,11 @@ use Rattle.wire_json.specs.Replies.{Reply, reply_text}
 use Rattle.sg_shell.specs.Lines.{lines_of}
 use Rattle.sg_shell.specs.Runs.{Line, Said, said, step, numbered_from, transcript_from, standard}
 use Rattle.sg_shell.specs.Runs.{printed, output}
+use Rattle.sg_shell.specs.declared.engine.TheConstants.{LANES}
 
 -- the lines that bytes have, the first of which has this number
 abbrev pub lines_to_come : ℕ → List (List ℕ) → List Line
-lines_to_come n lines = numbered_from n (map (command_of standard) lines)
+lines_to_come n lines = numbered_from n (map (command_of standard LANES) lines)
 
 -- what they print over a record
 abbrev pub transcript_to_come : Record → ℕ → List ℕ → List Said
@@ -24,13 +25,13 @@ output-said line (Some reply) = append-nil (reply_text reply)
 -- the output so far, after one more line
 pub output-more : (so_far whole : List ℕ) (n : ℕ) (r after : Record) (bytes line rest : List ℕ)
     (reply : Option Reply) → lines_of bytes ≡ line ∷ lines_of rest
-    → reply ≡ (step n (command_of standard line) r).reply
-    → after ≡ (step n (command_of standard line) r).after
+    → reply ≡ (step n (command_of standard LANES line) r).reply
+    → after ≡ (step n (command_of standard LANES line) r).after
     → so_far ++ output (transcript_to_come r n bytes) ≡ whole
     → (so_far ++ printed reply) ++ output (transcript_to_come after (n + 1) rest) ≡ whole
 output-more so_far whole n r after bytes line rest reply split replied then before =
-    let next = step n (command_of standard line) r in
-    let this : Line = record { number = n; command = command_of standard line } in
+    let next = step n (command_of standard LANES line) r in
+    let this : Line = record { number = n; command = command_of standard LANES line } in
     let later = transcript_to_come next.after (n + 1) rest in
     let opened : so_far ++ output (said this next.reply ++ later) ≡ whole =
     ap (λ lines. so_far ++ output (transcript_from r (lines_to_come n lines))) (sym split)

@@ -2,9 +2,9 @@
 use Rattle.std.proofs.Common.{◌≡◌, ◌≤◌, ◌<◌, ◌+◌, ℕ, Bool, true, false, cond, nat_eq, nat_le}
 use Rattle.std.proofs.Common.{List, [], ◌∷◌, ◌++◌, length, map, filter, refl}
 use Rattle.std.proofs.Common.{sym, ap, ◌∙◌, subst, arith, append-nil, length-append, add-zero}
-use Rattle.std.proofs.Common.{zero-add, inl, inr}
+use Rattle.std.proofs.Common.{zero-add, inl, inr, Some, None}
 use Rattle.std.specs.List.{All, filter_map}
-use Rattle.std.proofs.lemmas.List.Elements.{All-cons, filter_map-append}
+use Rattle.std.proofs.lemmas.List.Elements.{All-cons, All-head, All-tail, filter_map-append}
 use Rattle.std.proofs.lemmas.Bool.Decides.{nat_tests}
 use Rattle.sg_paths.specs.Operations.{Operation}
 use Rattle.index_core.specs.Histories.{HistoryEvent, accept, Record, accepted}
@@ -12,11 +12,15 @@ use Rattle.index_core.specs.Histories.{buffered, accepted_number}
 use Rattle.index_core.specs.Calls.{empty_record, with_event, with_operation, after_freeze}
 use Rattle.index_core.specs.Calls.{after_accept, after_begin}
 use Rattle.index_core.specs.declared.limits.TheConstants.{MOST_OPERATIONS, MOST_BUFFERED}
-use Rattle.wire_json.specs.Commands.{Command, blank, accepts, suggests, refused}
+use Rattle.wire_json.specs.Commands.{Command, blank, accepts, suggests, opens, closes, flushes}
+use Rattle.wire_json.specs.Commands.{merges, barrier, refused}
+use Rattle.wire_json.specs.CommandForms.{IsRead}
+use Rattle.sg_shell.specs.Lines.{lines_of}
 use Rattle.sg_shell.specs.Runs.{Line, Said, said, caller, step, after_view}
 use Rattle.sg_shell.specs.Runs.{transcript_from, input_lines}
 use Rattle.sg_shell.specs.Runs.{transcript_of, output_of}
 use Rattle.sg_shell.specs.Sessions.{wants_reply, MayReply, Session}
+use Rattle.sg_shell.proofs.ReadLemmas.{lines-read}
 use Rattle.sg_shell.proofs.SessionLemmas.{at_most, Follows, follows-nil, follows-cons}
 use Rattle.sg_shell.proofs.SessionLemmas.{next-numbered, next-full, next-rows, next-refused}
 
@@ -101,11 +105,9 @@ gains-counted now old new counted gains =
 
 -- the operations that a line accepts over a record
 abbrev pub accepted_now : Command → Record → List Operation
-accepted_now blank r = []
-accepted_now (accepts operation) r =
+accepted_now (accepts lane operation) r =
     cond (nat_le MOST_OPERATIONS (accepted r.history)) [] (operation ∷ [])
-accepted_now (suggests prefix) r = []
-accepted_now (refused kind) r = []
+accepted_now other r = []
 
 -- those that lines in order accept
 abbrev pub accepted_from : Record → List Line → List Operation
@@ -113,55 +115,54 @@ accepted_from r [] = []
 accepted_from r (line ∷ lines) =
     accepted_now line.command r ++ accepted_from (step line.number line.command r).after lines
 
-gains-accept_if : (full : Bool) (n : ℕ) (operation : Operation) (r : Record)
+gains-accept_if : (full : Bool) (n lane : ℕ) (operation : Operation) (r : Record)
     → nat_le MOST_OPERATIONS (accepted r.history) ≡ full
-    → Gains (accepted_now (accepts operation) r) r (step n (accepts operation) r).after
-gains-accept_if true n operation r is = rw is (gains-none r)
-gains-accept_if false n operation r is = rw is (gains-accept r operation)
+    → Gains (accepted_now (accepts lane operation) r) r (step n (accepts lane operation) r).after
+gains-accept_if true n lane operation r is = rw is (gains-none r)
+gains-accept_if false n lane operation r is = rw is (gains-accept r operation)
 
 gains-step : (n : ℕ) (c : Command) (r : Record) → Gains (accepted_now c r) r (step n c r).after
-gains-step n blank r = gains-none r
-gains-step n (accepts operation) r =
-    gains-accept_if (nat_le MOST_OPERATIONS (accepted r.history)) n operation r refl
-gains-step n (suggests prefix) r = gains-view r
-gains-step n (refused kind) r = gains-none r
+gains-step n (accepts lane operation) r =
+    gains-accept_if (nat_le MOST_OPERATIONS (accepted r.history)) n lane operation r refl
+gains-step n (suggests lane query None) r = gains-view r
+gains-step n other r = gains-none r
 
 -- the transcript from one line on
 abbrev told : ℕ → Command → Record → List Said → List Said
 told n c r t = said (record { number = n; command = c }) (step n c r).reply ++ t
 
-follows-accept_if : (full : Bool) (n : ℕ) (operation : Operation) (r : Record) (t : List Said)
-    (more : List Operation) → nat_le MOST_OPERATIONS (accepted r.history) ≡ full → IsCounted r
-    → Follows (r.journal ++ accepted_now (accepts operation) r) t more
-    → Follows r.journal (told n (accepts operation) r t) (accepted_now
-    (accepts operation) r ++ more)
-follows-accept_if true n operation r t more is counted later =
+follows-accept_if : (full : Bool) (n lane : ℕ) (operation : Operation) (r : Record)
+    (t : List Said) (more : List Operation) → nat_le MOST_OPERATIONS (accepted r.history) ≡ full
+    → IsCounted r
+    → Follows (r.journal ++ accepted_now (accepts lane operation) r) t more
+    → Follows r.journal (told n (accepts lane operation) r t) (accepted_now
+    (accepts lane operation) r ++ more)
+follows-accept_if true n lane operation r t more is counted later =
     let full : MOST_OPERATIONS ≤ length r.journal = grind (arith, nat_tests, counted, is) in
     let later' = rw is at later in
-    rw is (follows-cons r.journal [] more _ t (next-full r.journal n operation full) later')
-follows-accept_if false n operation r t more is counted later =
+    rw is (follows-cons r.journal [] more _ t (next-full r.journal n lane operation full) later')
+follows-accept_if false n lane operation r t more is counted later =
     let room : length r.journal < MOST_OPERATIONS = grind (arith, nat_tests, counted, is) in
     let later' = rw is at later in
     rw (is, counted) (follows-cons r.journal (operation ∷ []) more _ t
-    (next-numbered r.journal n operation room) later')
+    (next-numbered r.journal n lane operation room) later')
 
 follows-step : (n : ℕ) (c : Command) (r : Record) (t : List Said) (more : List Operation)
     → IsCounted r
     → Follows (r.journal ++ accepted_now c r) t more
     → Follows r.journal (told n c r t) (accepted_now c r ++ more)
-follows-step n blank r t more counted later = rw append-nil at later
-follows-step n (accepts operation) r t more counted later =
+follows-step n (accepts lane operation) r t more counted later =
     follows-accept_if (nat_le MOST_OPERATIONS
-    (accepted r.history)) n operation r t more refl counted later
-follows-step n (suggests prefix) r t more counted later =
-    rw counted (follows-cons r.journal [] more _ t (next-rows r.journal n prefix) later)
+    (accepted r.history)) n lane operation r t more refl counted later
+follows-step n (suggests lane query None) r t more counted later =
+    rw counted (follows-cons r.journal [] more _ t (next-rows r.journal n lane query) later)
 follows-step n (refused kind) r t more counted later =
     follows-cons r.journal [] more _ t (next-refused r.journal n kind) later
+follows-step n other r t more counted later = rw append-nil at later
 
 within-step : (n : ℕ) (c : Command) (r : Record) → IsCounted r → length r.journal ≤ MOST_OPERATIONS
     → length (r.journal ++ accepted_now c r) ≤ MOST_OPERATIONS
-within-step n blank r counted most = omega (arith, length-append r.journal [], most)
-within-step n (accepts operation) r counted most =
+within-step n (accepts lane operation) r counted most =
     by_room (nat_le MOST_OPERATIONS (accepted r.history)) refl where
       by_room : (full : Bool) → nat_le MOST_OPERATIONS (accepted r.history) ≡ full
           → length (r.journal ++ cond full [] (operation ∷ [])) ≤ MOST_OPERATIONS
@@ -169,8 +170,7 @@ within-step n (accepts operation) r counted most =
       by_room false is =
           let room : length r.journal < MOST_OPERATIONS = grind (arith, nat_tests, counted, is) in
           omega (arith, length-append r.journal (operation ∷ []), room)
-within-step n (suggests prefix) r counted most = omega (arith, length-append r.journal [], most)
-within-step n (refused kind) r counted most = omega (arith, length-append r.journal [], most)
+within-step n other r counted most = omega (arith, length-append r.journal [], most)
 
 -- lines in order
 pub follows-lines : (r : Record) (lines : List Line) → IsCounted r
@@ -192,25 +192,25 @@ follows-lines r (line ∷ lines) counted most =
 
 -- ---- replies
 
-answers-accept_if : (full : Bool) (n : ℕ) (operation : Operation) (r : Record) (t : List Said)
-    → nat_le MOST_OPERATIONS (accepted r.history) ≡ full
+answers-accept_if : (full : Bool) (n lane : ℕ) (operation : Operation) (r : Record)
+    (t : List Said) → nat_le MOST_OPERATIONS (accepted r.history) ≡ full
     → All (λ e. MayReply e.line.command e.line.number e.reply) t
-    → All (λ e. MayReply e.line.command e.line.number e.reply) (told n (accepts operation) r t)
-answers-accept_if true n operation r t is later =
+    → All (λ e. MayReply e.line.command e.line.number e.reply) (told n (accepts lane operation) r t)
+answers-accept_if true n lane operation r t is later =
     rw is (All-cons (λ e. MayReply e.line.command e.line.number e.reply) _ t (inr refl) later)
-answers-accept_if false n operation r t is later =
+answers-accept_if false n lane operation r t is later =
     rw is (All-cons (λ e. MayReply e.line.command e.line.number e.reply) _ t (inl (_, refl)) later)
 
 answers-step : (n : ℕ) (c : Command) (r : Record) (t : List Said)
     → All (λ e. MayReply e.line.command e.line.number e.reply) t
     → All (λ e. MayReply e.line.command e.line.number e.reply) (told n c r t)
-answers-step n blank r t later = later
-answers-step n (accepts operation) r t later =
-    answers-accept_if (nat_le MOST_OPERATIONS (accepted r.history)) n operation r t refl later
-answers-step n (suggests prefix) r t later =
+answers-step n (accepts lane operation) r t later =
+    answers-accept_if (nat_le MOST_OPERATIONS (accepted r.history)) n lane operation r t refl later
+answers-step n (suggests lane query None) r t later =
     All-cons (λ e. MayReply e.line.command e.line.number e.reply) _ t (_, _, refl) later
 answers-step n (refused kind) r t later =
     All-cons (λ e. MayReply e.line.command e.line.number e.reply) _ t refl later
+answers-step n other r t later = later
 
 answers-lines : (r : Record) (lines : List Line)
     → All (λ e. MayReply e.line.command e.line.number e.reply) (transcript_from r lines)
@@ -219,33 +219,40 @@ answers-lines r (line ∷ lines) =
     answers-step line.number line.command r _ (answers-lines
     (step line.number line.command r).after lines)
 
-lines-accept_if : (full : Bool) (n : ℕ) (operation : Operation) (r : Record) (t : List Said)
+lines-accept_if : (full : Bool) (n lane : ℕ) (operation : Operation) (r : Record) (t : List Said)
     → nat_le MOST_OPERATIONS (accepted r.history) ≡ full
-    → map (λ e. e.line) (told n (accepts operation) r t)
-    ≡ record { number = n; command = accepts operation } ∷ map (λ e. e.line) t
-lines-accept_if true n operation r t is = rw is refl
-lines-accept_if false n operation r t is = rw is refl
+    → map (λ e. e.line) (told n (accepts lane operation) r t)
+    ≡ record { number = n; command = accepts lane operation } ∷ map (λ e. e.line) t
+lines-accept_if true n lane operation r t is = rw is refl
+lines-accept_if false n lane operation r t is = rw is refl
 
--- each line that wants a reply has one
-lines-step : (n : ℕ) (c : Command) (r : Record) (t : List Said) (lines : List Line)
+-- each line that wants a reply has one, where it asks for what is read
+lines-step : (n : ℕ) (c : Command) (r : Record) (t : List Said) (lines : List Line) → IsRead c
     → map (λ e. e.line) t ≡ filter (λ l. wants_reply l.command) lines
     → map (λ e. e.line) (told n c r t)
     ≡ filter (λ l. wants_reply l.command) (record { number = n; command = c } ∷ lines)
-lines-step n blank r t lines later = later
-lines-step n (accepts operation) r t lines later =
-    lines-accept_if (nat_le MOST_OPERATIONS (accepted r.history)) n operation r t refl
-    ∙ ap (λ (ls : List Line). record { number = n; command = accepts operation } ∷ ls) later
-lines-step n (suggests prefix) r t lines later =
-    ap (λ (ls : List Line). record { number = n; command = suggests prefix } ∷ ls) later
-lines-step n (refused kind) r t lines later =
+lines-step n blank r t lines read later = later
+lines-step n (accepts lane operation) r t lines read later =
+    lines-accept_if (nat_le MOST_OPERATIONS (accepted r.history)) n lane operation r t refl
+    ∙ ap (λ (ls : List Line). record { number = n; command = accepts lane operation } ∷ ls) later
+lines-step n (suggests lane query None) r t lines read later =
+    ap (λ (ls : List Line). record { number = n; command = suggests lane query None } ∷ ls) later
+lines-step n (suggests lane query (Some view)) r t lines read later = cc
+lines-step n (refused kind) r t lines read later =
     ap (λ (ls : List Line). record { number = n; command = refused kind } ∷ ls) later
+lines-step n (opens lane name) r t lines read later = absurd read
+lines-step n (closes lane name) r t lines read later = absurd read
+lines-step n (flushes lane) r t lines read later = absurd read
+lines-step n (merges lane) r t lines read later = absurd read
+lines-step n barrier r t lines read later = absurd read
 
-lines-transcript : (r : Record) (lines : List Line)
+lines-transcript : (r : Record) (lines : List Line) → All (λ l. IsRead l.command) lines
     → map (λ e. e.line) (transcript_from r lines) ≡ filter (λ l. wants_reply l.command) lines
-lines-transcript r [] = refl
-lines-transcript r (line ∷ lines) =
-    lines-step line.number line.command r _ lines (lines-transcript
-    (step line.number line.command r).after lines)
+lines-transcript r [] read = refl
+lines-transcript r (line ∷ lines) read =
+    lines-step line.number line.command r _ lines (All-head (λ l. IsRead l.command) line lines read)
+    (lines-transcript (step line.number line.command r).after lines
+    (All-tail (λ l. IsRead l.command) line lines read))
 
 -- ---- the session
 
@@ -260,7 +267,7 @@ output_of-session input =
       transcript = transcript_of input;
       journal = journal;
       is_session = record {
-        replied = lines-transcript empty_record lines;
+        replied = lines-transcript empty_record lines (lines-read 1 (lines_of input));
         written = refl;
         answers = answers-lines empty_record lines;
         numbers = follows.numbers;

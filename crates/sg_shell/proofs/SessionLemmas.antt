@@ -7,15 +7,16 @@ use Rattle.std.specs.List.{All, AllPairs, filter_map, enumerate_from}
 use Rattle.std.specs.List.{list_any}
 use Rattle.std.proofs.lemmas.List.Elements.{All-cons, filter_map-append}
 use Rattle.std.proofs.Math.Seq.{take-append_seam, take-length}
-use Rattle.sg_shell.specs.Answers.{rows_of}
 use Rattle.std.proofs.lemmas.List.Kept.{AllPairs-cons}
+use Rattle.sg_context.specs.Queries.{PlainQuery}
 use Rattle.sg_paths.specs.Operations.{Operation, documents_from}
 use Rattle.sg_paths.specs.LiveDocuments.{live_documents, deletes_id}
 use Rattle.index_core.specs.declared.limits.TheConstants.{MOST_OPERATIONS}
 use Rattle.wire_json.specs.Commands.{accepts, suggests, refused}
 use Rattle.wire_json.specs.Replies.{numbered, rows, failed}
-use Rattle.wire_json.specs.declared.replies.ErrorKind.{ErrorKind}
-use Rattle.wire_json.specs.declared.replies.ErrorKind.TheVariants.{Full}
+use Rattle.wire_json.specs.declared.errors.ErrorKind.{ErrorKind}
+use Rattle.wire_json.specs.declared.errors.ErrorKind.TheVariants.{Full}
+use Rattle.sg_shell.specs.Answers.{rows_of}
 use Rattle.sg_shell.specs.Runs.{Said}
 use Rattle.sg_shell.specs.Sessions.{number_printed, upto_printed, numbered_operation, IsFull}
 use Rattle.sg_shell.specs.Sessions.{IsAnswered, StandsBefore}
@@ -163,16 +164,16 @@ follows-cons journal now more e t next later =
 -- ---- lines
 
 -- a new number
-pub next-numbered : (journal : List Operation) (line : ℕ) (operation : Operation)
+pub next-numbered : (journal : List Operation) (line lane : ℕ) (operation : Operation)
     → length journal < MOST_OPERATIONS
     → IsNext journal
     (record {
-      line = record { number = line; command = accepts operation };
+      line = record { number = line; command = accepts lane operation };
       reply =
           numbered line (length journal + 1);
     })
     (operation ∷ [])
-next-numbered journal line operation room = record {
+next-numbered journal line lane operation room = record {
   after = record { number = omega arith; upto = tt; none_when_full = λ full. absurd (omega arith) };
   within = record { number = omega arith; upto = tt; full = λ is. cc };
   numbers = refl;
@@ -180,16 +181,16 @@ next-numbered journal line operation room = record {
 }
 
 -- no room for one more
-pub next-full : (journal : List Operation) (line : ℕ) (operation : Operation)
+pub next-full : (journal : List Operation) (line lane : ℕ) (operation : Operation)
     → MOST_OPERATIONS ≤ length journal
     → IsNext journal
     (record {
-      line = record { number = line; command = accepts operation };
+      line = record { number = line; command = accepts lane operation };
       reply =
           failed line Full;
     })
     []
-next-full journal line operation full = record {
+next-full journal line lane operation full = record {
   after = record { number = tt; upto = tt; none_when_full = λ _. refl };
   within = record { number = tt; upto = tt; full = λ is. omega arith };
   numbers = refl;
@@ -197,19 +198,19 @@ next-full journal line operation full = record {
 }
 
 -- an answer over all operations so far
-pub next-rows : (journal : List Operation) (line : ℕ) (prefix : List ℕ)
+pub next-rows : (journal : List Operation) (line lane : ℕ) (query : PlainQuery)
     → IsNext journal
     (record {
-      line = record { number = line; command = suggests prefix };
-      reply = rows line (length journal) (rows_of prefix (live_documents journal
-          (length journal)));
+      line = record { number = line; command = suggests lane query None };
+      reply = rows line (length journal) (rows_of query (live_documents journal
+          (length journal))) None;
     })
     []
-next-rows journal line prefix = record {
+next-rows journal line lane query = record {
   after = record { number = tt; upto = omega arith; none_when_full = λ _. refl };
   within = record { number = tt; upto = omega arith; full = λ is. absurd is };
   numbers = refl;
-  answered = λ more. ap (rows_of prefix) (sym (live_documents-append journal more));
+  answered = λ more. ap (rows_of query) (sym (live_documents-append journal more));
 }
 
 -- an error of the line itself

@@ -3,16 +3,18 @@
 use Rattle.std.specs.Prelude.{ℕ, ◌+◌, true, nat_le, if◌then◌else◌, List, [], ◌∷◌, ◌++◌, map}
 use Rattle.std.specs.Prelude.{flat_map, Option, Some, None}
 use Rattle.sg_analysis.specs.declared.analyzer.Analyzer.{Analyzer}
+use Rattle.sg_context.specs.Queries.{PlainQuery}
 use Rattle.sg_paths.specs.Operations.{Operation}
 use Rattle.sg_paths.specs.LiveDocuments.{live_documents}
 use Rattle.index_core.specs.Histories.{Record, accepted}
 use Rattle.index_core.specs.Calls.{empty_record, after_accept, after_begin, after_end, begun_by}
 use Rattle.index_core.specs.declared.limits.TheConstants.{MOST_OPERATIONS}
-use Rattle.wire_json.specs.Commands.{Command, blank, accepts, suggests, refused, command_of}
+use Rattle.wire_json.specs.Commands.{Command, accepts, suggests, refused, command_of}
 use Rattle.wire_json.specs.Replies.{Reply, numbered, rows, failed, reply_text}
-use Rattle.wire_json.specs.declared.replies.ErrorKind.TheVariants.{Full}
+use Rattle.wire_json.specs.declared.errors.ErrorKind.TheVariants.{Full}
 use Rattle.sg_shell.specs.Lines.{lines_of}
 use Rattle.sg_shell.specs.Answers.{rows_of}
+use Rattle.sg_shell.specs.declared.engine.TheConstants.{LANES}
 
 -- the program is the one caller of its index
 abbrev pub caller : ℕ
@@ -37,21 +39,23 @@ accept_step line operation r =
 abbrev pub after_view : Record → Record
 after_view r = after_end caller (begun_by caller r).view (after_begin caller r)
 
--- a query prints its rows over the documents that are live after all operations so far
-abbrev pub suggest_step : ℕ → List ℕ → Record → Step
-suggest_step line prefix r =
+-- a query prints its rows over the documents that are live after all operations so far; none is
+-- left out
+abbrev pub suggest_step : ℕ → PlainQuery → Record → Step
+suggest_step line query r =
     let upto = accepted r.history in
     record {
-      reply = Some (rows line upto (rows_of prefix (live_documents r.journal upto)));
+      reply = Some (rows line upto (rows_of query (live_documents r.journal upto)) None);
       after = after_view r;
     }
 
--- what a line prints by what it asks for
+-- What a line prints by what it asks for. A blank line prints nothing, and no line asks for the
+-- other commands today.
 abbrev pub step : ℕ → Command → Record → Step
-step line blank r = record { reply = None; after = r }
-step line (accepts operation) r = accept_step line operation r
-step line (suggests prefix) r = suggest_step line prefix r
+step line (accepts lane operation) r = accept_step line operation r
+step line (suggests lane query None) r = suggest_step line query r
 step line (refused kind) r = record { reply = Some (failed line kind); after = r }
+step line other r = record { reply = None; after = r }
 
 -- a line: its number, from 1, and what it asks for
 pub record Line : Type 0 where
@@ -89,9 +93,9 @@ record_after r (line ∷ lines) = record_after (step line.number line.command r)
 abbrev pub standard : Analyzer
 standard = record { separators = true }
 
--- the lines of an input
+-- the lines of an input, for one worker
 abbrev pub input_lines : List ℕ → List Line
-input_lines input = numbered_from 1 (map (command_of standard) (lines_of input))
+input_lines input = numbered_from 1 (map (command_of standard LANES) (lines_of input))
 
 -- the lines of an input that have a reply, each with it
 abbrev pub transcript_of : List ℕ → List Said

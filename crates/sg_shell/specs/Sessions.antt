@@ -3,74 +3,68 @@
 use Rattle.std.specs.Prelude.{◌≡◌, ◌≤◌, ◌<◌, ◌⊎◌, ⊤, ℕ, Bool, true, false, List}
 use Rattle.std.specs.Prelude.{length, map, filter, Option, Some, None, IfSome, All, AllPairs}
 use Rattle.std.specs.List.{filter_map, enumerate_from}
+use Rattle.sg_context.specs.Queries.{PlainQuery}
 use Rattle.sg_paths.specs.Operations.{Operation}
 use Rattle.sg_paths.specs.LiveDocuments.{live_documents}
 use Rattle.index_core.specs.declared.limits.TheConstants.{MOST_OPERATIONS}
 use Rattle.wire_json.specs.Commands.{Command, blank, accepts, suggests, refused}
 use Rattle.wire_json.specs.Replies.{Reply, numbered, rows, failed}
 use Rattle.wire_json.specs.Rows.{Row}
-use Rattle.wire_json.specs.declared.replies.ErrorKind.TheVariants.{Full}
+use Rattle.wire_json.specs.declared.errors.ErrorKind.TheVariants.{Full}
 use Rattle.sg_shell.specs.Answers.{rows_of}
 use Rattle.sg_shell.specs.Runs.{Said, input_lines, output}
 
--- whether a line has a reply
+-- whether a line has a reply: each that isn't blank
 abbrev pub wants_reply : Command → Bool
 wants_reply blank = false
-wants_reply (accepts operation) = true
-wants_reply (suggests prefix) = true
-wants_reply (refused kind) = true
+wants_reply other = true
 
 -- the sequence number that a reply prints
 abbrev pub number_printed : Reply → Option ℕ
 number_printed (numbered line seq) = Some seq
-number_printed (rows line upto rs) = None
-number_printed (failed line kind) = None
+number_printed other = None
 
 -- how many operations the rows of a reply are over
 abbrev pub upto_printed : Reply → Option ℕ
-upto_printed (numbered line seq) = None
-upto_printed (rows line upto rs) = Some upto
-upto_printed (failed line kind) = None
+upto_printed (rows line upto rs cut) = Some upto
+upto_printed other = None
 
 -- an operation with its number, of a line that asks for one and prints the other
 abbrev pub with_number : Command → Option ℕ → Option (ℕ × Operation)
-with_number command None = None
-with_number (accepts operation) (Some seq) = Some (seq, operation)
-with_number blank (Some seq) = None
-with_number (suggests prefix) (Some seq) = None
-with_number (refused kind) (Some seq) = None
+with_number (accepts lane operation) (Some seq) = Some (seq, operation)
+with_number other number = None
 
 abbrev pub numbered_operation : Said → Option (ℕ × Operation)
 numbered_operation e = with_number e.line.command (number_printed e.reply)
 
 -- an operation is refused because the index is full
 abbrev pub IsRefusedAsFull : Command → ℕ → Reply → Type 0
-IsRefusedAsFull blank line r = ⊥
-IsRefusedAsFull (accepts operation) line r = r ≡ failed line Full
-IsRefusedAsFull (suggests prefix) line r = ⊥
-IsRefusedAsFull (refused kind) line r = ⊥
+IsRefusedAsFull (accepts lane operation) line r = r ≡ failed line Full
+IsRefusedAsFull other line r = ⊥
 
 abbrev pub IsFull : Said → Type 0
 IsFull e = IsRefusedAsFull e.line.command e.line.number e.reply
 
--- the replies that a line may have, by what it asks for: its own error exactly, else of its kind
+-- The replies that a line may have, by what it asks for: its own error exactly, else of its kind.
+-- Rows are all that were asked for, or all there are: none is cut off. No line asks for the other
+-- commands today.
 abbrev pub MayReply : Command → ℕ → Reply → Type 0
-MayReply blank line r = ⊥
-MayReply (accepts operation) line r = ((seq : ℕ) × (r ≡ numbered line seq)) ⊎ (r ≡ failed line Full)
-MayReply (suggests prefix) line r = (upto : ℕ) × (rs : List Row) × (r ≡ rows line upto rs)
+MayReply (accepts lane operation) line r =
+    ((seq : ℕ) × (r ≡ numbered line seq)) ⊎ (r ≡ failed line Full)
+MayReply (suggests lane query None) line r =
+    (upto : ℕ) × (rs : List Row) × (r ≡ rows line upto rs None)
 MayReply (refused kind) line r = r ≡ failed line kind
+MayReply other line r = ⊥
 
 -- a query's rows are the first of the answer over the documents live after so many operations
-abbrev pub PrintsRows : List Operation → List ℕ → Reply → Type 0
-PrintsRows journal prefix (rows line upto rs) = rs ≡ rows_of prefix (live_documents journal upto)
-PrintsRows journal prefix (numbered line seq) = ⊥
-PrintsRows journal prefix (failed line kind) = ⊥
+abbrev pub PrintsRows : List Operation → PlainQuery → Reply → Type 0
+PrintsRows journal query (rows line upto rs cut) =
+    rs ≡ rows_of query (live_documents journal upto)
+PrintsRows journal query other = ⊥
 
 abbrev pub IsAnswered : List Operation → Command → Reply → Type 0
-IsAnswered journal blank r = ⊤
-IsAnswered journal (accepts operation) r = ⊤
-IsAnswered journal (suggests prefix) r = PrintsRows journal prefix r
-IsAnswered journal (refused kind) r = ⊤
+IsAnswered journal (suggests lane query view) r = PrintsRows journal query r
+IsAnswered journal other r = ⊤
 
 -- what the reply to a line says of that to a later one
 pub record StandsBefore (e f : Said) : Type 0 where

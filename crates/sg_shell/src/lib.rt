@@ -12,10 +12,10 @@ mod running;
 mod status;
 mod writing;
 
-pub use answers::{DEFAULT_ROWS, rows_for};
-pub use engine::{CALLER, answer, step};
+pub use answers::rows_for;
+pub use engine::{CALLER, LANES, answer, step};
 pub use lines::{Split, first_line};
-pub use live::{LiveDocument, live_documents};
+pub use live::live_documents;
 pub use reading::{MOST_INPUT_BYTES, PIECE_BYTES, ReadError, read_input};
 pub use replying::replies_to;
 pub use running::run;

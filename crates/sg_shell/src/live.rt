@@ -9,25 +9,10 @@ ghost use Rattle.index_core.specs.OpenViews.{operations_of};
 ghost use Rattle.sg_shell.specs.LastDeletes.{last_of, delete_after, last_delete, undeleted};
 
 use index_core::Piece;
+use sg_answers::LiveDocument;
 use sg_paths::{Document, Op};
 use std::alloc::{AllocError, Global};
 use std::collections::HashMap;
-use std::marker::Model;
-
-/// A document of a piece, with the number of the operation that added it.
-#[derive(Drop)]
-pub struct LiveDocument<'p> {
-    pub seq: u64,
-    pub document: &'p Document,
-}
-
-impl<'p> Model for LiveDocument<'p> {
-    ghost use Rattle.sg_paths.specs.Operations.{NumberedDocument};
-
-    ghost Value = { NumberedDocument };
-
-    ghost view = { λ d. record { seq = d.seq; document = d.document.now } };
-}
 
 // By id, the number of the last operation that deletes it.
 type LastDeletes<'p> = HashMap<&'p str, u64>;

@@ -8,14 +8,16 @@ use std::process::Abort;
 use std::test::Fail;
 
 mod answered;
+mod asked;
 mod changed;
 mod limits;
 mod refused;
 
 use answered::{ADDED, ADDED_UNSEEN, ITS_REPLIES, ONE_ADD_AND_ONE_QUERY, SESSIONS};
+use asked::ASKED;
 use changed::CHANGES;
 use limits::AT_LIMITS;
-use refused::{ENTRIES_WITHOUT_FORM, NOT_JSON, NOT_JSON_BY_A_BYTE, WITHOUT_FORM, WITHOUT_KEY};
+use refused::{CHANGES_REFUSED, NOT_JSON, NOT_JSON_BY_A_BYTE, REFUSED};
 
 // Arguments, the takes and the puts that fail, and how the add and the query then end: with how
 // much of the 97 bytes of input left.
@@ -201,6 +203,11 @@ fn lines_are_answered_in_order(rt: HostRuntime) -> Result<(), Fail> {
         let output = output.replace(alloc, "\n ", "")?;
         compare(&rt, alloc, name, input.as_bytes(), output.as_str())?;
     }
+    for (name, input, output) in ASKED {
+        let input = input.replace(alloc, "\n ", "")?;
+        let output = output.replace(alloc, "\n ", "")?;
+        compare(&rt, alloc, name, input.as_bytes(), output.as_str())?;
+    }
     for (name, line, row) in ADDED_UNSEEN {
         compare_row(&rt, alloc, name, line, row)?;
     }
@@ -253,15 +260,28 @@ fn compare_errors(
     Ok(())
 }
 
+// Blocks of cases, each behind its error.
+fn compare_blocks(
+    rt: &impl Abort,
+    alloc: Global,
+    blocks: &str,
+    ends: [&str; 2],
+) -> Result<(), Fail> {
+    for block in blocks.split("\n\n") {
+        let (error, cases) = block.split_once("\n").ok_or("a block without an error")?;
+        compare_errors(rt, alloc, cases, ends, error)?;
+    }
+    Ok(())
+}
+
 #[test]
 fn lines_are_refused_by_their_first_error(rt: HostRuntime) -> Result<(), Fail> {
     let alloc = rt.alloc();
     compare_errors(&rt, alloc, NOT_JSON, ["", ""], "json")?;
-    compare_errors(&rt, alloc, WITHOUT_FORM, ["", ""], "shape")?;
+    compare_blocks(&rt, alloc, REFUSED, ["", ""])?;
     for front in ["{\"op\":\"add\",", "{\"op\":\"update\","] {
-        compare_errors(&rt, alloc, ENTRIES_WITHOUT_FORM, [front, "}"], "shape")?;
+        compare_blocks(&rt, alloc, CHANGES_REFUSED, [front, "}"])?;
     }
-    compare_errors(&rt, alloc, WITHOUT_KEY, ["", ""], "key")?;
     for (name, line) in NOT_JSON_BY_A_BYTE {
         compare(&rt, alloc, name, line, "{\"error\":\"json\",\"line\":1}\n")?;
     }

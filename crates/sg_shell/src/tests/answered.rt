@@ -17,6 +17,30 @@ pub const ADDED: &str = r#"no weight: {"op":"add","id":"a","suggest":[{"input":"
 an update: {"op":"update","id":"a","suggest":[{"input":"A","weight":3}]}
 => {"id":"a","score":3,"seq":1,"text":"A"}
 
+a text: {"op":"add","id":"a","suggest":"A"}
+=> {"id":"a","score":1,"seq":1,"text":"A"}
+
+one object: {"op":"update","id":"a","suggest":{"input":"A","weight":3}}
+=> {"id":"a","score":3,"seq":1,"text":"A"}
+
+a list of texts: {"op":"add","id":"a","suggest":["B","A"]}
+=> {"id":"a","score":1,"seq":1,"text":"A"}
+
+a list of inputs: {"op":"add","id":"a","suggest":{"input":["C","A","B"],"weight":2}}
+=> {"id":"a","score":2,"seq":1,"text":"A"}
+
+a list of both: {"op":"add","id":"a","suggest":["A",{"input":["B","C"],"weight":3},"D"]}
+=> {"id":"a","score":3,"seq":1,"text":"B"}
+
+one key and two weights: {"op":"add","id":"a","suggest":["A",{"input":"\uff41","weight":2}]}
+=> {"id":"a","score":2,"seq":1,"text":"ａ"}
+
+one key and one weight: {"op":"add","id":"a","suggest":["\uff41","A"]}
+=> {"id":"a","score":1,"seq":1,"text":"ａ"}
+
+no text in one of two: {"op":"add","id":"a","suggest":[{"input":[],"weight":9},"A"]}
+=> {"id":"a","score":1,"seq":1,"text":"A"}
+
 a null weight: {"op":"add","id":"a","suggest":[{"input":"A","weight":null}]}
 => {"id":"a","score":1,"seq":1,"text":"A"}
 
@@ -26,7 +50,25 @@ the least weight: {"op":"add","id":"a","suggest":[{"input":"A","weight":0}]}
 the greatest weight: {"op":"add","id":"a","suggest":[{"input":"A","weight":2147483647}]}
 => {"id":"a","score":2147483647,"seq":1,"text":"A"}
 
+a weight in digits: {"op":"add","id":"a","suggest":{"input":"A","weight":"2147483647"}}
+=> {"id":"a","score":2147483647,"seq":1,"text":"A"}
+
+zeros in front: {"op":"add","id":"a","suggest":{"input":"A","weight":"00000000000000000012"}}
+=> {"id":"a","score":12,"seq":1,"text":"A"}
+
 null contexts: {"op":"add","id":"a","suggest":[{"input":"A","contexts":null}],"contexts":null}
+=> {"id":"a","score":1,"seq":1,"text":"A"}
+
+a context: {"op":"add","id":"a","suggest":{"input":"A","contexts":"x"}}
+=> {"id":"a","score":1,"seq":1,"text":"A"}
+
+several contexts: {"op":"add","id":"a","suggest":{"input":"A","contexts":["x","","é","x"]}}
+=> {"id":"a","score":1,"seq":1,"text":"A"}
+
+no context: {"op":"add","id":"a","suggest":{"input":"A","contexts":[]}}
+=> {"id":"a","score":1,"seq":1,"text":"A"}
+
+the first worker: {"op":"add","id":"a","suggest":"A","lane":0}
 => {"id":"a","score":1,"seq":1,"text":"A"}
 
 nulls: {"op":"update","id":"a","suggest":[{"input":"A"}],"lane":null,"k":null,"view":null}
@@ -35,13 +77,16 @@ nulls: {"op":"update","id":"a","suggest":[{"input":"A"}],"lane":null,"k":null,"v
 unread: {"op":"add","id":"a","suggest":[{"input":"A"}],"prefix":5,"x":[-0,{"y":1e9}],"":0}
 => {"id":"a","score":1,"seq":1,"text":"A"}
 
+members of a query: {"op":"add","id":"a","suggest":"A","k":0,"contexts":7,"view":7,"boost":0}
+=> {"id":"a","score":1,"seq":1,"text":"A"}
+
 unread and wide: {"op":"add","id":"a","suggest":[{"input":"A"}],"x":18446744073709551616}
 => {"id":"a","score":1,"seq":1,"text":"A"}
 
 unread in a suggestion: {"op":"add","id":"a","suggest":[{"input":"A","lane":1,"k":0,"view":""}]}
 => {"id":"a","score":1,"seq":1,"text":"A"}
 
-capitals: {"op":"add","id":"a","suggest":[{"input":"A","Weight":2}],"Lane":0,"ID":7}
+capitals: {"op":"add","id":"a","suggest":[{"input":"A","Weight":2}],"Lane":1,"ID":7}
 => {"id":"a","score":1,"seq":1,"text":"A"}
 
 the last weight: {"op":"add","id":"a","suggest":[{"input":"A","weight":-1,"weight":7}]}
@@ -56,7 +101,7 @@ the last op and id: {"op":7,"id":"a","op":"add","id":"b","suggest":[{"input":"B"
 the last suggest: {"op":"add","id":"a","suggest":7,"suggest":[{"input":1,"input":"B"}]}
 => {"id":"a","score":1,"seq":1,"text":"B"}
 
-the last lane: {"lane":0,"op":"add","id":"a","suggest":[{"input":"A"}],"lane":null}
+the last lane: {"lane":1,"op":"add","id":"a","suggest":[{"input":"A"}],"lane":null}
 => {"id":"a","score":1,"seq":1,"text":"A"}
 
 escaped: {"\u006fp":"\u0061dd","id":"\u0061","suggest":[{"\u0069nput":"\u0041\u00c2"}]}
@@ -142,7 +187,7 @@ pub const SESSIONS: [(&str, &str, &str); 15] = [
 "#,
         r#"{"error":"shape","line":1}
 {"error":"json","line":2}
-{"error":"key","line":3}
+{"error":"empty","line":3}
 {"line":4,"seq":1}
 {"complete":true,"line":5,"rows":[{"id":"a","score":1,"seq":1,"text":"A"}],"upto":1}
 "#,

@@ -20,6 +20,6 @@ returns-clause-reply c =
     sym counts.count ∙ counts.journal in
     let holds = parts_hold c.args.core.now _ _ counted c.in-Ok.ensures.view c.in-Ok.ensures.ok
     c.in-Ok.ensures.held in
-    rows-view c.args.line _ c.args.prefix.now _
+    rows-view c.args.line _ c.args.query.now _
     c.args.core.now.journal _ _ _ counts.count counted holds
     c.of.ensures.items c.in_ok-rows.ensures

@@ -1,0 +1,42 @@
+-- The lines of an input ask for commands that are read today.
+use Rattle.std.proofs.Common.{ℕ, ◌+◌, Bool, true, false, cond, List, [], ◌∷◌, map, Option, Some}
+use Rattle.std.proofs.Common.{None, refl}
+use Rattle.std.specs.List.{All}
+use Rattle.std.specs.Option.{option_map_or}
+use Rattle.std.proofs.lemmas.List.Elements.{All-nil, All-cons}
+use Rattle.wire_json.specs.Commands.{Command, refused, command_by_form, command_of_form}
+use Rattle.wire_json.specs.Commands.{command_of_value, command_of_text, value_of, is_long, is_blank}
+use Rattle.wire_json.specs.Commands.{command_of}
+use Rattle.wire_json.specs.CommandForms.{IsRead}
+use Rattle.wire_json.specs.Forms.{Form, change, delete, suggest, form_of}
+use Rattle.wire_json.specs.LineErrors.{error_of_form}
+use Rattle.sg_shell.specs.Runs.{Line, numbered_from, standard}
+use Rattle.sg_shell.specs.declared.engine.TheConstants.{LANES}
+
+read-if : (b : Bool) (one other : Command) → IsRead one → IsRead other → IsRead (cond b one other)
+read-if true one other p q = p
+read-if false one other p q = q
+
+read-or : {X : Type 0} (f : X → Command) (found : Option X) (other : Command)
+    → ((x : X) → IsRead (f x)) → IsRead other → IsRead (option_map_or f found other)
+read-or f None other p q = q
+read-or f (Some x) other p q = p x
+
+form-read : (f : Form) → IsRead (command_by_form standard LANES f)
+form-read (change how lane id ds) = tt
+form-read (delete lane id) = tt
+form-read (suggest lane prefix k ds) = refl
+
+line-read : (line : List ℕ) → IsRead (command_of standard LANES line)
+line-read line =
+    read-if (is_long line) _ _ tt (read-if (is_blank line) _ _ tt
+    (read-or (command_of_value standard LANES) (value_of line) _
+    (λ d. read-or (command_of_form standard LANES) (form_of d) _
+    (λ f. read-or refused (error_of_form standard LANES f) _ (λ kind. tt) (form-read f)) tt)
+    tt))
+
+pub lines-read : (n : ℕ) (lines : List (List ℕ))
+    → All (λ l. IsRead l.command) (numbered_from n (map (command_of standard LANES) lines))
+lines-read n [] = All-nil (λ l. IsRead l.command)
+lines-read n (line ∷ lines) =
+    All-cons (λ l. IsRead l.command) _ _ (line-read line) (lines-read (n + 1) lines)

@@ -1,0 +1,234 @@
+// Queries with contexts, boosts and numbers of rows, written as in `answered`.
+
+pub const ASKED: [(&str, &str, &str); 14] = [
+    (
+        "a letter and a mark; the text comes back as it was given",
+        r#"{"op":"add","id":"a","suggest":"Pa\u0302ris"}
+{"op":"suggest","prefix":"P\u00c2"}
+"#,
+        "{\"line\":1,\"seq\":1}
+{\"complete\":true,\"line\":2,
+ \"rows\":[{\"id\":\"a\",\"score\":1,\"seq\":1,\"text\":\"Pa\u{302}ris\"}],\"upto\":1}
+",
+    ),
+    (
+        "the greatest weight under the greatest boost, and none under it",
+        r#"{"op":"add","id":"a","suggest":{"input":"Aa","contexts":"x"}}
+{"op":"add","id":"b","suggest":{"input":"Ab","weight":0,"contexts":["x"]}}
+{"op":"add","id":"c","suggest":[{"input":"Ac","weight":2147483647,"contexts":"x"}]}
+{"op":"suggest","prefix":"a","contexts":[{"context":"x","boost":2147483647}]}
+"#,
+        r#"{"line":1,"seq":1}
+{"line":2,"seq":2}
+{"line":3,"seq":3}
+{"complete":true,"line":4,"rows":[{"id":"c","score":4611686014132420609,"seq":3,"text":"Ac"},
+ {"id":"a","score":2147483647,"seq":1,"text":"Aa"},
+ {"id":"b","score":0,"seq":2,"text":"Ab"}],"upto":3}
+"#,
+    ),
+    (
+        "weights that are none take no number",
+        r#"{"op":"add","id":"a","suggest":{"input":"A","weight":2147483648}}
+{"op":"add","id":"a","suggest":{"input":"A","weight":1.5}}
+{"op":"add","id":"a","suggest":{"input":"A","weight":1}}
+"#,
+        r#"{"error":"weight","line":1}
+{"error":"weight","line":2}
+{"line":3,"seq":1}
+"#,
+    ),
+    (
+        "a reserved byte behind the 50 characters that are read",
+        r#"{"op":"add","id":"a","suggest":" \t"}
+{"op":"add","id":"a","suggest":"a\u001fb"}
+{"op":"add","id":"a","suggest":"aaaaaaaaaaaaaaaaaaaaaaaaaaaaaaaaaaaaaaaaaaaaaaaaaa\u001fb"}
+{"op":"suggest","prefix":"aaaaaaaaaaaaaaaaaaaaaaaaaaaaaaaaaaaaaaaaaaaaaaaaaa"}
+{"op":"suggest","prefix":"aaaaaaaaaaaaaaaaaaaaaaaaaaaaaaaaaaaaaaaaaaaaaaaaaaa"}
+"#,
+        r#"{"error":"empty","line":1}
+{"error":"reserved","line":2}
+{"line":3,"seq":1}
+{"complete":true,"line":4,"rows":[{"id":"a","score":1,"seq":1,
+ "text":"aaaaaaaaaaaaaaaaaaaaaaaaaaaaaaaaaaaaaaaaaaaaaaaaaa\u001fb"}],"upto":1}
+{"complete":true,"line":5,"rows":[],"upto":1}
+"#,
+    ),
+    (
+        "the greatest boost of those that match, and a beginning that isn't asked for",
+        r#"{"op":"add","id":"l","suggest":{"input":"Lyon","weight":4,"contexts":["fr"]}}
+{"op":"suggest","prefix":"l","contexts":[{"context":"fr","boost":2},
+ {"context":"f","boost":3,"prefix":true}]}
+{"op":"suggest","prefix":"l","contexts":["f"]}
+"#,
+        r#"{"line":1,"seq":1}
+{"complete":true,"line":2,"rows":[{"id":"l","score":12,"seq":1,"text":"Lyon"}],"upto":1}
+{"complete":true,"line":3,"rows":[],"upto":1}
+"#,
+    ),
+    (
+        "the most rows, none, and one more than the most",
+        r#"{"op":"add","id":"t1","suggest":"One"}
+{"op":"add","id":"t2","suggest":"Two"}
+{"op":"add","id":"t3","suggest":"Three"}
+{"op":"suggest","prefix":"","k":1000}
+{"op":"suggest","prefix":"","k":0}
+{"op":"suggest","prefix":"","k":1001}
+"#,
+        r#"{"line":1,"seq":1}
+{"line":2,"seq":2}
+{"line":3,"seq":3}
+{"complete":true,"line":4,"rows":[{"id":"t1","score":1,"seq":1,"text":"One"},
+ {"id":"t3","score":1,"seq":3,"text":"Three"},
+ {"id":"t2","score":1,"seq":2,"text":"Two"}],"upto":3}
+{"error":"k","line":5}
+{"error":"k","line":6}
+"#,
+    ),
+    (
+        "no line feed at the end",
+        r#"{"op":"add","id":"fr1","suggest":[{"input":"Paris","weight":10}]}
+{"op":"suggest","prefix":"pa"}"#,
+        r#"{"line":1,"seq":1}
+{"complete":true,"line":2,"rows":[{"id":"fr1","score":10,"seq":1,"text":"Paris"}],"upto":1}
+"#,
+    ),
+    (
+        "a blank line in front",
+        r#"
+{"op":"add","id":"fr1","suggest":[{"input":"Paris","weight":10}]}
+{"op":"suggest","prefix":"pa"}
+"#,
+        r#"{"line":2,"seq":1}
+{"complete":true,"line":3,"rows":[{"id":"fr1","score":10,"seq":1,"text":"Paris"}],"upto":1}
+"#,
+    ),
+    (
+        "two texts of one weight, and a context that is given twice",
+        r#"{"op":"add","id":"k","suggest":{"input":["Köln","Cologne"],"weight":"12",
+ "contexts":["de","de"]}}
+{"op":"suggest","prefix":"co"}
+{"op":"suggest","prefix":"k","contexts":"de"}
+"#,
+        r#"{"line":1,"seq":1}
+{"complete":true,"line":2,"rows":[{"id":"k","score":12,"seq":1,"text":"Cologne"}],"upto":1}
+{"complete":true,"line":3,"rows":[{"id":"k","score":12,"seq":1,"text":"Köln"}],"upto":1}
+"#,
+    ),
+    (
+        "several suggestions: one row of a document, its first by rank",
+        r#"{"op":"add","id":"a","suggest":[{"input":["Ulm","Ulan"],"weight":3},
+ {"input":"Umea","weight":9},"Ural"]}
+{"op":"suggest","prefix":"ul"}
+{"op":"suggest","prefix":"u"}
+{"op":"suggest","prefix":"ur"}
+"#,
+        r#"{"line":1,"seq":1}
+{"complete":true,"line":2,"rows":[{"id":"a","score":3,"seq":1,"text":"Ulan"}],"upto":1}
+{"complete":true,"line":3,"rows":[{"id":"a","score":9,"seq":1,"text":"Umea"}],"upto":1}
+{"complete":true,"line":4,"rows":[{"id":"a","score":1,"seq":1,"text":"Ural"}],"upto":1}
+"#,
+    ),
+    (
+        "boosts put another text and another document first",
+        r#"{"op":"add","id":"a","suggest":[{"input":"Rom","weight":5,"contexts":["it","eu"]},
+ {"input":"Roma","weight":4,"contexts":"it"}]}
+{"op":"add","id":"b","suggest":{"input":"Rostock","weight":7,"contexts":["de","eu"]}}
+{"op":"suggest","prefix":"ro","contexts":[{"context":"it","boost":2},"eu"]}
+{"op":"suggest","prefix":"ro","contexts":"it"}
+{"op":"suggest","prefix":"ro","contexts":{"context":"d","boost":3,"prefix":true}}
+{"op":"suggest","prefix":"ro","contexts":["i","d"]}
+{"op":"suggest","prefix":"roma","contexts":["eu",{"context":"it","boost":null,"prefix":null}]}
+{"op":"suggest","prefix":"ro"}
+"#,
+        r#"{"line":1,"seq":1}
+{"line":2,"seq":2}
+{"complete":true,"line":3,"rows":[{"id":"a","score":10,"seq":1,"text":"Rom"},
+ {"id":"b","score":7,"seq":2,"text":"Rostock"}],"upto":2}
+{"complete":true,"line":4,"rows":[{"id":"a","score":5,"seq":1,"text":"Rom"}],"upto":2}
+{"complete":true,"line":5,"rows":[{"id":"b","score":21,"seq":2,"text":"Rostock"}],"upto":2}
+{"complete":true,"line":6,"rows":[],"upto":2}
+{"complete":true,"line":7,"rows":[{"id":"a","score":4,"seq":1,"text":"Roma"}],"upto":2}
+{"complete":true,"line":8,"rows":[{"id":"b","score":7,"seq":2,"text":"Rostock"},
+ {"id":"a","score":5,"seq":1,"text":"Rom"}],"upto":2}
+"#,
+    ),
+    (
+        "the empty context is one of its own, and no context asks for all",
+        r#"{"op":"add","id":"a","suggest":{"input":"A","weight":2}}
+{"op":"add","id":"b","suggest":{"input":"B","contexts":["",""]}}
+{"op":"add","id":"c","suggest":{"input":"C","contexts":[]}}
+{"op":"add","id":"d","suggest":{"input":"D","contexts":"x"}}
+{"op":"suggest","prefix":"","contexts":""}
+{"op":"suggest","prefix":"","contexts":{"context":"","prefix":true,"boost":3}}
+{"op":"suggest","prefix":"","contexts":[]}
+{"op":"suggest","prefix":"","contexts":"X"}
+"#,
+        r#"{"line":1,"seq":1}
+{"line":2,"seq":2}
+{"line":3,"seq":3}
+{"line":4,"seq":4}
+{"complete":true,"line":5,"rows":[{"id":"a","score":2,"seq":1,"text":"A"},
+ {"id":"b","score":1,"seq":2,"text":"B"},
+ {"id":"c","score":1,"seq":3,"text":"C"}],"upto":4}
+{"complete":true,"line":6,"rows":[{"id":"a","score":6,"seq":1,"text":"A"},
+ {"id":"b","score":3,"seq":2,"text":"B"},
+ {"id":"c","score":3,"seq":3,"text":"C"},
+ {"id":"d","score":3,"seq":4,"text":"D"}],"upto":4}
+{"complete":true,"line":7,"rows":[{"id":"a","score":2,"seq":1,"text":"A"},
+ {"id":"b","score":1,"seq":2,"text":"B"},
+ {"id":"c","score":1,"seq":3,"text":"C"},
+ {"id":"d","score":1,"seq":4,"text":"D"}],"upto":4}
+{"complete":true,"line":8,"rows":[],"upto":4}
+"#,
+    ),
+    (
+        "as many rows as are asked for, or all there are",
+        r#"{"op":"add","id":"a","suggest":"A1"}
+{"op":"add","id":"b","suggest":"A2"}
+{"op":"add","id":"c","suggest":"A3"}
+{"op":"add","id":"d","suggest":"A4"}
+{"op":"add","id":"e","suggest":"A5"}
+{"op":"add","id":"f","suggest":"A6"}
+{"op":"suggest","prefix":"a","k":1}
+{"op":"suggest","prefix":"a","k":6}
+{"op":"suggest","prefix":"a","k":7}
+{"op":"suggest","prefix":"a6","k":null}
+"#,
+        r#"{"line":1,"seq":1}
+{"line":2,"seq":2}
+{"line":3,"seq":3}
+{"line":4,"seq":4}
+{"line":5,"seq":5}
+{"line":6,"seq":6}
+{"complete":true,"line":7,"rows":[{"id":"a","score":1,"seq":1,"text":"A1"}],"upto":6}
+{"complete":true,"line":8,"rows":[{"id":"a","score":1,"seq":1,"text":"A1"},
+ {"id":"b","score":1,"seq":2,"text":"A2"},
+ {"id":"c","score":1,"seq":3,"text":"A3"},
+ {"id":"d","score":1,"seq":4,"text":"A4"},
+ {"id":"e","score":1,"seq":5,"text":"A5"},
+ {"id":"f","score":1,"seq":6,"text":"A6"}],"upto":6}
+{"complete":true,"line":9,"rows":[{"id":"a","score":1,"seq":1,"text":"A1"},
+ {"id":"b","score":1,"seq":2,"text":"A2"},
+ {"id":"c","score":1,"seq":3,"text":"A3"},
+ {"id":"d","score":1,"seq":4,"text":"A4"},
+ {"id":"e","score":1,"seq":5,"text":"A5"},
+ {"id":"f","score":1,"seq":6,"text":"A6"}],"upto":6}
+{"complete":true,"line":10,"rows":[{"id":"f","score":1,"seq":6,"text":"A6"}],"upto":6}
+"#,
+    ),
+    (
+        "the first worker, and members that a line doesn't use",
+        r#"{"op":"delete","id":"a","lane":0,"suggest":7,"contexts":7,"view":7,"k":0}
+{"op":"suggest","prefix":"a","lane":0,"id":7,"suggest":7,"weight":-1,"boost":0}
+{"op":"suggest","prefix":"a","contexts":{"context":"x","weight":-1,"k":0,"contexts":7}}
+[1]
+{"op":"add","id":"","suggest":"a"}
+"#,
+        r#"{"line":1,"seq":1}
+{"complete":true,"line":2,"rows":[],"upto":1}
+{"complete":true,"line":3,"rows":[],"upto":1}
+{"error":"shape","line":4}
+{"error":"id","line":5}
+"#,
+    ),
+];
