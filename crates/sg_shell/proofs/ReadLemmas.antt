@@ -25,7 +25,7 @@ read-or f (Some x) other p q = p x
 form-read : (f : Form) → IsRead (command_by_form standard LANES f)
 form-read (change how lane id ds) = tt
 form-read (delete lane id) = tt
-form-read (suggest lane prefix k ds) = refl
+form-read (suggest lane prefix options) = refl
 
 line-read : (line : List ℕ) → IsRead (command_of standard LANES line)
 line-read line =
