@@ -104,6 +104,24 @@ def accepted(numbers):
     return [b'{"line":%d,"seq":%d}' % (number, number) for number in numbers]
 
 
+def refused(error):
+    """Gives the replies to lines that all have this error, by their numbers."""
+    return lambda numbers: [b'{"error":"%s","line":%d}' % (error.encode(), number)
+                            for number in numbers]
+
+
+def row(number, seq):
+    """The row of the document with this number, which the operation `seq` added."""
+    return line(id=f"n{number}", score=weight(number), seq=seq, text=name(number))
+
+
+def answered(rows, upto):
+    """Gives the replies to queries that all have these rows, by their numbers."""
+    middle = f'"rows":[{",".join(rows)}],"upto":{upto}'
+    return lambda numbers: [f'{{"complete":true,"line":{number},{middle}}}'.encode()
+                            for number in numbers]
+
+
 def compare(given, wanted, what):
     """Ends the benchmark at the first reply that isn't the wanted one."""
     for place, (one, other) in enumerate(zip(given, wanted)):
@@ -111,6 +129,16 @@ def compare(given, wanted, what):
             fail(f"{what}: line {place + 1} was answered {one.decode()}, not {other.decode()}")
     if len(given) != len(wanted):
         fail(f"{what}: {len(given)} replies came, not {len(wanted)}")
+
+
+def checked(title, lines, replies, adds=()):
+    """Lines behind adds, whose replies are compared once, outside the time that counts: `replies`
+    gives them by the numbers of the lines."""
+    given = Input(title, [*adds, *lines])
+    wanted = accepted(range(1, len(adds) + 1))
+    wanted += replies(range(len(adds) + 1, given.lines + 1))
+    compare(given.run().splitlines(), wanted, title)
+    return given
 
 
 def measure(inputs, runs):
