@@ -1,4 +1,4 @@
--- The lines of an input ask for commands that are read today.
+-- The lines of an input ask for commands that are read.
 use Rattle.std.proofs.Common.{ℕ, ◌+◌, Bool, true, false, cond, List, [], ◌∷◌, map, Option, Some}
 use Rattle.std.proofs.Common.{None, refl}
 use Rattle.std.specs.List.{All}

@@ -49,7 +49,7 @@ IsFull e = IsRefusedAsFull e.line.command e.line.number e.reply
 
 -- The replies that a line may have, by what it asks for: its own error exactly, else of its kind.
 -- Rows are all that were asked for, or all there are: none is cut off. No line asks for the other
--- commands today.
+-- commands.
 abbrev pub MayReply : Command → ℕ → Reply → Type 0
 MayReply (accepts lane operation) line r =
     ((seq : ℕ) × (r ≡ numbered line seq)) ⊎ (r ≡ failed line Full)

@@ -10,7 +10,8 @@ use Rattle.sg_analysis.specs.declared.analyzer.Analyzer.{Analyzer}
 use Rattle.sg_paths.specs.declared.limits.TheConstants.{MOST_TEXT_BYTES}
 use Rattle.wire_json.specs.Suggested.{Entry, entry_of, entries_in, entries_of, texts_of}
 use Rattle.wire_json.specs.Suggested.{has_wrong_weight, has_reserved_context, has_wrong_contexts}
-use Rattle.wire_json.specs.LineErrors.{Keyed, keyed_by, input_key, is_refused_as_empty, is_refused_as_reserved, is_refused_as_too_long}
+use Rattle.wire_json.specs.LineErrors.{Keyed, keyed_by, input_key, is_refused_as_empty}
+use Rattle.wire_json.specs.LineErrors.{is_refused_as_reserved, is_refused_as_too_long}
 use Rattle.wire_json.specs.Asked.{is_query_context, query_contexts_are_wrong}
 use Rattle.wire_json.specs.Commands.{suggestion_of}
 use Rattle.wire_json.specs.ReadyForms.{AreKeys, AreSuggestions, IsReady, AreReady, suggestions_by}
@@ -40,7 +41,8 @@ keyed_text text (too_long bytes) k is = grind arith
 keyed_text text (key j) k is = grind arith
 
 -- a key without a fault is one
-has_key : (r : Keyed) → is_refused_as_empty r ≡ false → is_refused_as_reserved r ≡ false → is_refused_as_too_long r ≡ false
+has_key : (r : Keyed) → is_refused_as_empty r ≡ false → is_refused_as_reserved r ≡ false
+    → is_refused_as_too_long r ≡ false
     → (k : List ℕ) × (r ≡ Ok k)
 has_key (Ok k) e s l = (k, refl)
 has_key (Err faults.Empty) e s l = absurd (grind arith)
@@ -113,5 +115,6 @@ not_false true h = refl
 not_false false h = absurd (grind (arith, h))
 
 -- query contexts that aren't wrong are each one
-pub all_query_contexts : (ds : List Data) → query_contexts_are_wrong ds ≡ false → list_all is_query_context ds ≡ true
+pub all_query_contexts : (ds : List Data) → query_contexts_are_wrong ds ≡ false
+    → list_all is_query_context ds ≡ true
 all_query_contexts ds right = not_false (list_all is_query_context ds) ((or_parts _ _ right).1)
