@@ -1,5 +1,6 @@
 //! The table of lines, as a stored run: `run` answers the lines of standard input, which show each
-//! form of a line and each error. It reads no arguments, and ends with the status.
+//! form of a line that is read and each error of a line itself. It reads no arguments, and ends
+//! with the status.
 #![tactic(auto)]
 
 use sg_base::Text;

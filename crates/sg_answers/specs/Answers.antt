@@ -1,6 +1,7 @@
 -- The answer to a query over documents, each of which has one row at most. Source: keys match as in
--- Lucene's PrefixCompletionQuery, and the score is that of Elasticsearch's context suggester. That a
--- document has one row, which it is, and that a weight of 0 has the score 0, is this project's own.
+-- Lucene's PrefixCompletionQuery, and the score is that of Elasticsearch's context suggester. That
+-- a document has one row, which it is, and that a weight of 0 has the score 0, is this project's
+-- own.
 use Rattle.std.specs.Prelude.{ℕ, ◌*◌, nat_eq, if◌then◌else◌, List, Option, None, option_map}
 use Rattle.std.specs.Prelude.{filter_map, slice_get, take}
 use Rattle.std.specs.List.{starts_with}

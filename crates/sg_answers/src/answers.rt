@@ -105,8 +105,8 @@ fn ranks_of(alloc: Global, rows: &[Candidate<'_>]) -> Result<Vec<Rank>, AllocErr
 }
 
 /// The first rows of the answer, as many as the query asks for. Looks at each suggestion of each
-/// document once, and at each of its contexts where its key matches; sorts what matched, one row a
-/// document, and copies the keys of the rows that it answers alone.
+/// document once and, where its key matches, at each of its contexts beside each of the query's;
+/// sorts what matched, one row a document, and copies the keys of the rows that it answers alone.
 pub fn first_rows(
     alloc: Global,
     query: &Query,

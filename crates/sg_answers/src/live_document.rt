@@ -46,7 +46,7 @@ fn document_at<'d, 'p>(
     }
 }
 
-/// The first document with a number, in logarithmic time.
+/// The first document with a number, found by halving.
 pub fn document_with<'d, 'p>(
     documents: &'d [LiveDocument<'p>],
     seq: u64,

@@ -172,18 +172,18 @@ fn a_document_is_found_by_its_number(rt: HostRuntime) -> Result<(), Fail> {
     }
     sort_by_number(&mut live);
     for (seq, wanted) in [
-        (0, 0),
-        (2, 0),
-        (3, 3),
-        (4, 0),
-        (5, 5),
-        (9, 9),
-        (10, 0),
-        (u64::MAX, 0),
+        (0, None),
+        (2, None),
+        (3, Some(3)),
+        (4, None),
+        (5, Some(5)),
+        (9, Some(9)),
+        (10, None),
+        (u64::MAX, None),
     ] {
         let found = match document_with(live.as_slice(), seq) {
-            Some(found) => found.seq,
-            None => 0,
+            Some(found) => Some(found.seq),
+            None => None,
         };
         assert_eq!(rt; found, wanted, "{seq}");
     }

@@ -1,16 +1,16 @@
--- The lines of an input ask for commands that are read today.
+-- The lines of an input ask for commands that are read.
 use Rattle.std.proofs.Common.{ℕ, ◌+◌, Bool, true, false, cond, List, [], ◌∷◌, map, Option, Some}
 use Rattle.std.proofs.Common.{None, refl}
 use Rattle.std.specs.List.{All}
 use Rattle.std.specs.Option.{option_map_or}
 use Rattle.std.proofs.lemmas.List.Elements.{All-nil, All-cons}
 use Rattle.wire_json.specs.Commands.{Command, refused, command_by_form, command_of_form}
-use Rattle.wire_json.specs.Commands.{command_of_value, command_of_text, value_of, is_long, is_blank}
+use Rattle.wire_json.specs.Commands.{command_of_value, value_of, is_long, is_blank}
 use Rattle.wire_json.specs.Commands.{command_of}
 use Rattle.wire_json.specs.CommandForms.{IsRead}
 use Rattle.wire_json.specs.Forms.{Form, change, delete, suggest, form_of}
 use Rattle.wire_json.specs.LineErrors.{error_of_form}
-use Rattle.sg_shell.specs.Runs.{Line, numbered_from, standard}
+use Rattle.sg_shell.specs.Runs.{numbered_from, standard}
 use Rattle.sg_shell.specs.declared.engine.TheConstants.{LANES}
 
 read-if : (b : Bool) (one other : Command) → IsRead one → IsRead other → IsRead (cond b one other)

@@ -22,6 +22,7 @@ pub record SourceMembers (S : Type 0) : Type 0 where
   pub faults : S → ℕ
   pub ended : S → Bool
 
+-- what a source tells, by its members
 abbrev pub source_of : {S : Type 0} → (S → Option (List ℕ)) → (S → ℕ) → (S → Bool) → SourceMembers S
 source_of left faults ended = record { left = left; faults = faults; ended = ended }
 
@@ -30,6 +31,7 @@ pub record SinkMembers (K : Type 0) : Type 0 where
   pub given : K → Option (List ℕ)
   pub faults : K → ℕ
 
+-- what a sink tells, by its members
 abbrev pub sink_of : {K : Type 0} → (K → Option (List ℕ)) → (K → ℕ) → SinkMembers K
 sink_of given faults = record { given = given; faults = faults }
 

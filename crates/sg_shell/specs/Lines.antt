@@ -1,6 +1,7 @@
 -- The lines of an input. Source: this project's own.
 use Rattle.std.specs.Prelude.{ℕ, Bool, true, false, ◌==◌, List, [], ◌∷◌, ◌++◌}
 
+-- the byte that ends a line
 abbrev pub is_line_feed : ℕ → Bool
 is_line_feed b = b == 10
 
@@ -15,6 +16,7 @@ split_with true b lines rest = record { ended = [] ∷ lines; rest = rest }
 split_with false b [] rest = record { ended = []; rest = b ∷ rest }
 split_with false b (line ∷ lines) rest = record { ended = (b ∷ line) ∷ lines; rest = rest }
 
+-- bytes split at each line feed
 abbrev pub split_lines : List ℕ → SplitText
 split_lines [] = record { ended = []; rest = [] }
 split_lines (b ∷ bs) = split_with (is_line_feed b) b (split_lines bs).ended (split_lines bs).rest
@@ -24,5 +26,6 @@ abbrev pub last_line : List ℕ → List (List ℕ)
 last_line [] = []
 last_line (b ∷ bs) = (b ∷ bs) ∷ []
 
+-- the lines of an input
 abbrev pub lines_of : List ℕ → List (List ℕ)
 lines_of bytes = (split_lines bytes).ended ++ last_line (split_lines bytes).rest

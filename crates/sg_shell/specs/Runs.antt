@@ -50,7 +50,7 @@ suggest_step line query r =
     }
 
 -- What a line prints by what it asks for. A blank line prints nothing, and no line asks for the
--- other commands today.
+-- other commands.
 abbrev pub step : ℕ → Command → Record → Step
 step line (accepts lane operation) r = accept_step line operation r
 step line (suggests lane query None) r = suggest_step line query r

@@ -34,6 +34,7 @@ abbrev pub with_number : Command → Option ℕ → Option (ℕ × Operation)
 with_number (accepts lane operation) (Some seq) = Some (seq, operation)
 with_number other number = None
 
+-- the operation of a line with the number that its reply prints
 abbrev pub numbered_operation : Said → Option (ℕ × Operation)
 numbered_operation e = with_number e.line.command (number_printed e.reply)
 
@@ -42,12 +43,13 @@ abbrev pub IsRefusedAsFull : Command → ℕ → Reply → Type 0
 IsRefusedAsFull (accepts lane operation) line r = r ≡ failed line Full
 IsRefusedAsFull other line r = ⊥
 
+-- a line's operation was refused because the index is full
 abbrev pub IsFull : Said → Type 0
 IsFull e = IsRefusedAsFull e.line.command e.line.number e.reply
 
 -- The replies that a line may have, by what it asks for: its own error exactly, else of its kind.
 -- Rows are all that were asked for, or all there are: none is cut off. No line asks for the other
--- commands today.
+-- commands.
 abbrev pub MayReply : Command → ℕ → Reply → Type 0
 MayReply (accepts lane operation) line r =
     ((seq : ℕ) × (r ≡ numbered line seq)) ⊎ (r ≡ failed line Full)
@@ -62,6 +64,7 @@ PrintsRows journal query (rows line upto rs cut) =
     rs ≡ rows_of query (live_documents journal upto)
 PrintsRows journal query other = ⊥
 
+-- where a line is a query, its rows are those
 abbrev pub IsAnswered : List Operation → Command → Reply → Type 0
 IsAnswered journal (suggests lane query view) r = PrintsRows journal query r
 IsAnswered journal other r = ⊤

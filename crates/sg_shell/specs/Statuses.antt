@@ -4,6 +4,7 @@ use Rattle.sg_shell.specs.declared.status.Status.{Status}
 use Rattle.sg_shell.specs.declared.status.Status.TheVariants.{Done, Usage, ReadFault, WriteFault}
 use Rattle.sg_shell.specs.declared.status.Status.TheVariants.{TooLong, Memory}
 
+-- the exit status of each end
 abbrev pub code_of : Status → ℕ
 code_of Done = 0
 code_of Usage = 2

@@ -102,6 +102,7 @@ pub fn step(
             query,
             view: None,
         } => Ok(Some(suggest(core, alloc, line, &query)?)),
+        // No line asks for these, and the caller knows.
         Command::Suggest { .. }
         | Command::OpenView { .. }
         | Command::CloseView { .. }

@@ -1,7 +1,8 @@
 -- A line without an error is ready: each of its entries makes a suggestion.
-use Rattle.std.proofs.Common.{◌≡◌, ◌<◌, ◌≤◌, ℕ, Bool, true, false, ◌||◌, List, [], ◌∷◌, length, map}
+use Rattle.std.proofs.Common.{◌≡◌, ◌<◌, ◌≤◌, ℕ, Bool, true, false, List, [], ◌∷◌, length, map}
 use Rattle.std.proofs.Common.{not, refl, ap, arith, IfOk, Ok, Err, suc}
 use Rattle.std.specs.List.{list_any, list_all, All}
+use Rattle.std.proofs.lemmas.Bool.{or_parts}
 use Rattle.std.proofs.lemmas.List.Folds.{list_any-append}
 use Rattle.serde_json.specs.Data.{Data}
 use Rattle.sg_analysis.specs.Analysis.{Analysis, reserved, empty, too_long, key, analysis_of}
@@ -9,7 +10,8 @@ use Rattle.sg_analysis.specs.declared.analyzer.Analyzer.{Analyzer}
 use Rattle.sg_paths.specs.declared.limits.TheConstants.{MOST_TEXT_BYTES}
 use Rattle.wire_json.specs.Suggested.{Entry, entry_of, entries_in, entries_of, texts_of}
 use Rattle.wire_json.specs.Suggested.{has_wrong_weight, has_reserved_context, has_wrong_contexts}
-use Rattle.wire_json.specs.LineErrors.{Keyed, keyed_by, input_key, is_refused_as_empty, is_refused_as_reserved, is_refused_as_too_long}
+use Rattle.wire_json.specs.LineErrors.{Keyed, keyed_by, input_key, is_refused_as_empty}
+use Rattle.wire_json.specs.LineErrors.{is_refused_as_reserved, is_refused_as_too_long}
 use Rattle.wire_json.specs.Asked.{is_query_context, query_contexts_are_wrong}
 use Rattle.wire_json.specs.Commands.{suggestion_of}
 use Rattle.wire_json.specs.ReadyForms.{AreKeys, AreSuggestions, IsReady, AreReady, suggestions_by}
@@ -20,15 +22,6 @@ no_text : (p : Data → Bool) (d : Data) → p d ≡ false → (ts : List (List 
 no_text p d none [] = refl
 no_text p d none (t ∷ ts) = rw (none, no_text p d none ts) refl
 
-or_false_left : (a b : Bool) → (a || b) ≡ false → a ≡ false
-or_false_left true b h = h
-or_false_left false b h = refl
-
-or_false_right : (a b : Bool) → (a || b) ≡ false → b ≡ false
-or_false_right true true h = h
-or_false_right true false h = refl
-or_false_right false b h = h
-
 -- what no suggestion has, no entry's has
 no_entry : (p : Data → Bool) (ds : List Data) → list_any p ds ≡ false
     → list_any (λ (e : Entry). p e.given) (entries_of ds) ≡ false
@@ -36,8 +29,8 @@ no_entry p [] none = refl
 no_entry p (d ∷ ds) none =
     rw (
       list_any-append (λ (e : Entry). p e.given) (entries_in d) (entries_of ds),
-      no_text p d (or_false_left (p d) _ none) (texts_of d),
-      no_entry p ds (or_false_right (p d) _ none),
+      no_text p d ((or_parts (p d) _ none).0) (texts_of d),
+      no_entry p ds ((or_parts (p d) _ none).1),
     ) refl
 
 keyed_text : (text : List ℕ) (analysis : Analysis) (k : List ℕ) → keyed_by text analysis ≡ Ok k
@@ -48,7 +41,8 @@ keyed_text text (too_long bytes) k is = grind arith
 keyed_text text (key j) k is = grind arith
 
 -- a key without a fault is one
-has_key : (r : Keyed) → is_refused_as_empty r ≡ false → is_refused_as_reserved r ≡ false → is_refused_as_too_long r ≡ false
+has_key : (r : Keyed) → is_refused_as_empty r ≡ false → is_refused_as_reserved r ≡ false
+    → is_refused_as_too_long r ≡ false
     → (k : List ℕ) × (r ≡ Ok k)
 has_key (Ok k) e s l = (k, refl)
 has_key (Err faults.Empty) e s l = absurd (grind arith)
@@ -71,28 +65,28 @@ entries_ready : (analyzer : Analyzer) (es : List Entry)
 entries_ready analyzer [] keys filled weights forbidden contexts = tt
 entries_ready analyzer (e ∷ es) keys filled weights forbidden contexts =
     let r = input_key analyzer e.text in
-    let found = has_key r (or_false_left (is_refused_as_empty r) _ keys.empty)
-    (or_false_left (is_refused_as_reserved r) _ keys.reserved)
-    (or_false_left (is_refused_as_too_long r) _ keys.too_long) in
+    let found = has_key r ((or_parts (is_refused_as_empty r) _ keys.empty).0)
+    ((or_parts (is_refused_as_reserved r) _ keys.reserved).0)
+    ((or_parts (is_refused_as_too_long r) _ keys.too_long).0) in
     let first : IsReady e r = record {
       key = found.0;
       is = found.1;
       filled = filled_by r found.0 found.1 (filled 0 r (grind arith));
       text = keyed_text e.text (analysis_of analyzer e.text true) found.0 found.1;
-      weight = or_false_left (has_wrong_weight e.given) _ weights;
-      reserved = or_false_left (has_reserved_context e.given) _ forbidden;
-      contexts = or_false_left (has_wrong_contexts e.given) _ contexts;
+      weight = (or_parts (has_wrong_weight e.given) _ weights).0;
+      reserved = (or_parts (has_reserved_context e.given) _ forbidden).0;
+      contexts = (or_parts (has_wrong_contexts e.given) _ contexts).0;
     } in
     let later : AreKeys (keys_by analyzer es) = record {
-      empty = or_false_right (is_refused_as_empty r) _ keys.empty;
-      reserved = or_false_right (is_refused_as_reserved r) _ keys.reserved;
-      too_long = or_false_right (is_refused_as_too_long r) _ keys.too_long;
+      empty = (or_parts (is_refused_as_empty r) _ keys.empty).1;
+      reserved = (or_parts (is_refused_as_reserved r) _ keys.reserved).1;
+      too_long = (or_parts (is_refused_as_too_long r) _ keys.too_long).1;
     } in (
       first,
       entries_ready analyzer es later (λ k d l. filled (suc k) d (grind (arith, l)))
-          (or_false_right (has_wrong_weight e.given) _ weights)
-          (or_false_right (has_reserved_context e.given) _ forbidden)
-          (or_false_right (has_wrong_contexts e.given) _ contexts),
+          ((or_parts (has_wrong_weight e.given) _ weights).1)
+          ((or_parts (has_reserved_context e.given) _ forbidden).1)
+          ((or_parts (has_wrong_contexts e.given) _ contexts).1),
     )
 
 -- the entries of suggestions without an error are ready with their keys
@@ -121,5 +115,6 @@ not_false true h = refl
 not_false false h = absurd (grind (arith, h))
 
 -- query contexts that aren't wrong are each one
-pub all_query_contexts : (ds : List Data) → query_contexts_are_wrong ds ≡ false → list_all is_query_context ds ≡ true
-all_query_contexts ds right = not_false (list_all is_query_context ds) (or_false_right _ _ right)
+pub all_query_contexts : (ds : List Data) → query_contexts_are_wrong ds ≡ false
+    → list_all is_query_context ds ≡ true
+all_query_contexts ds right = not_false (list_all is_query_context ds) ((or_parts _ _ right).1)

@@ -1,7 +1,8 @@
 -- The entries and the weight of a suggestion.
 use Rattle.std.proofs.Common.{◌≡◌, ◌<◌, ◌+◌, ◌^◌, ℕ, Bool, true, false, List, [], ◌∷◌}
 use Rattle.std.proofs.Common.{◌++◌, length, take, get_or, map, Option, Some, None, option_map}
-use Rattle.std.proofs.Common.{option_to_list, option_and_then, refl, sym, ap, ◌∙◌, append_assoc, arith}
+use Rattle.std.proofs.Common.{option_to_list, option_and_then, refl, sym, ap, ◌∙◌, append_assoc}
+use Rattle.std.proofs.Common.{arith}
 use Rattle.std.proofs.Common.{eqb, leb}
 use Rattle.std.specs.List.{filter_map, list_all}
 use Rattle.std.specs.Char.{digit_value}

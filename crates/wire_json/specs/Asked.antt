@@ -10,7 +10,8 @@ use Rattle.serde_json.specs.Data.{Data, null, boolean, number, string, array, ob
 use Rattle.serde_json.specs.Find.{as_bool}
 use Rattle.sg_base.specs.declared.limits.TheConstants.{MOST_BOOST}
 use Rattle.sg_context.specs.Boosts.{PlainQueryContext}
-use Rattle.sg_context.specs.declared.limits.TheConstants.{LEAST_BOOST, DEFAULT_BOOST, LEAST_K, MOST_K}
+use Rattle.sg_context.specs.declared.limits.TheConstants.{LEAST_BOOST, DEFAULT_BOOST, LEAST_K}
+use Rattle.sg_context.specs.declared.limits.TheConstants.{MOST_K}
 use Rattle.sg_context.specs.declared.limits.TheConstants.{DEFAULT_K, MOST_QUERY_CONTEXTS}
 use Rattle.wire_json.specs.Members.{member_of, text_of, whole_of}
 use Rattle.wire_json.specs.Suggested.{has_reserved_byte, has_context_length}
@@ -56,11 +57,13 @@ asks_for_reserved_context d = option_map_or has_reserved_byte (context_asked d) 
 -- whether it is a query context, whatever its boost: a context of at most 63 bytes, and a prefix
 -- flag, if any, that is true or false
 abbrev pub is_query_context : Data → Bool
-is_query_context d = option_map_or has_context_length (context_asked d) false && is_some (prefix_flag d)
+is_query_context d =
+    option_map_or has_context_length (context_asked d) false && is_some (prefix_flag d)
 
 -- whether there are over 64, or one is of a wrong kind or too long
 abbrev pub query_contexts_are_wrong : List Data → Bool
-query_contexts_are_wrong ds = nat_lt MOST_QUERY_CONTEXTS (length ds) || not (list_all is_query_context ds)
+query_contexts_are_wrong ds =
+    nat_lt MOST_QUERY_CONTEXTS (length ds) || not (list_all is_query_context ds)
 
 -- whether the boost that is given is out of its limits or of a wrong kind
 abbrev pub has_wrong_boost : Data → Bool

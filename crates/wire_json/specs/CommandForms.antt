@@ -41,7 +41,7 @@ kind_of errors.Memory = None
 abbrev pub Refuses : plain.Command → LineError → Type 0
 Refuses command error = IfSome (kind_of error) (λ kind. command ≡ plain.refused kind)
 
--- the commands that lines ask for today: the other words are refused
+-- the commands that a line may ask for: the other words aren't read
 abbrev pub IsRead : plain.Command → Type 0
 IsRead plain.blank = ⊤
 IsRead (plain.accepts lane operation) = ⊤

@@ -44,7 +44,7 @@ abbrev pub options_of : Data → QueryOptions
 options_of d =
     record { k = member_of (codes "k") d; contexts = listed_at (codes "contexts") d }
 
--- a query; one in a view isn't read yet
+-- a query; one in a view has no form
 abbrev pub suggest_of : Data → Option Form
 suggest_of d =
     if is_none (member_of (codes "view") d)

@@ -83,6 +83,7 @@ pub record Used : Type 0 where
   pub suggestions : List Data
   pub options : Option QueryOptions
 
+-- what each form uses
 abbrev pub used : Form → Used
 used (change how lane id ds) =
     record { lane = lane; id = Some id; suggestions = ds; options = None }

@@ -1,5 +1,5 @@
 -- The members of a JSON value that a line uses. Source: this project's own, over `serde_json`'s
--- reading, which keeps one of the members with one name.
+-- reading, which keeps the last of the members with one name.
 use Rattle.std.specs.Prelude.{ℕ, Bool, is_some, List, [], ◌∷◌, Option, Some, None, option_and_then}
 use Rattle.std.specs.Option.{option_map_or}
 use Rattle.serde_json.specs.Data.{Data, null, boolean, number, string, array, object, Items}

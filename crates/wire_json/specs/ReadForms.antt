@@ -48,7 +48,7 @@ HasItsEntries (Change given) = EntriesFit given
 HasItsEntries (Delete lane id) = ⊤
 HasItsEntries (Suggest given) = ⊤
 
--- what each form uses of its line, by the code's values
+-- what a change uses of its line, by the code's values
 abbrev pub used_by_change : Option (Bor Value) → List ℕ → List Value → Used
 used_by_change lane id suggestions =
     record {
@@ -58,6 +58,7 @@ used_by_change lane id suggestions =
       options = None;
     }
 
+-- what a delete uses
 abbrev pub used_by_delete : Option (Bor Value) → List ℕ → Used
 used_by_delete lane id =
     record {
@@ -67,6 +68,7 @@ used_by_delete lane id =
       options = None;
     }
 
+-- what a query uses
 abbrev pub used_by_query : Option (Bor Value) → Option (Bor Value) → List Value → Used
 used_by_query lane k contexts =
     record {

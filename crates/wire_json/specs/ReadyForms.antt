@@ -9,8 +9,10 @@ use Rattle.sg_paths.specs.Documents.{PlainSuggestion}
 use Rattle.sg_paths.specs.declared.limits.TheConstants.{MOST_TEXT_BYTES}
 use Rattle.wire_json.specs.Suggested.{Entry, has_wrong_weight, has_reserved_context}
 use Rattle.wire_json.specs.Suggested.{has_wrong_contexts}
-use Rattle.wire_json.specs.Asked.{asks_for_reserved_context, query_contexts_are_wrong, has_wrong_boost}
-use Rattle.wire_json.specs.LineErrors.{Keyed, is_refused_as_empty, is_refused_as_reserved, is_refused_as_too_long}
+use Rattle.wire_json.specs.Asked.{asks_for_reserved_context, query_contexts_are_wrong}
+use Rattle.wire_json.specs.Asked.{has_wrong_boost}
+use Rattle.wire_json.specs.LineErrors.{Keyed, is_refused_as_empty, is_refused_as_reserved}
+use Rattle.wire_json.specs.LineErrors.{is_refused_as_too_long}
 use Rattle.wire_json.specs.Commands.{suggestion_by}
 
 -- the keys of texts have no fault

@@ -2,7 +2,8 @@
 -- suggester, whose input is a text or a list, whose weight is a number or digits, and whose
 -- contexts are a text or a list; the limits are this project's own.
 use Rattle.std.specs.Prelude.{ℕ, Bool, false, ◌&&◌, ◌||◌, not, nat_le, nat_lt, if◌then◌else◌}
-use Rattle.std.specs.Prelude.{is_none, is_some, List, [], length, map, flat_map, codes, Option, Some}
+use Rattle.std.specs.Prelude.{is_none, is_some, List, [], length, map, flat_map, codes, Option}
+use Rattle.std.specs.Prelude.{Some}
 use Rattle.std.specs.Prelude.{None, option_and_then}
 use Rattle.std.specs.Option.{option_map_or, option_or}
 use Rattle.std.specs.List.{list_all, list_any, filter_map, position_from}

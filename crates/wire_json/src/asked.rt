@@ -6,7 +6,8 @@ ghost use Rattle.sg_base.specs.declared.limits.TheConstants.{MOST_BOOST};
 ghost use Rattle.sg_context.specs.Boosts.{IsBoost};
 ghost use Rattle.sg_context.specs.Queries.{IsRowCount};
 ghost use Rattle.wire_json.specs.Asked.{whole_within, context_asked, prefix_flag, boost_asked};
-ghost use Rattle.wire_json.specs.Asked.{rows_asked, asks_for_reserved_context, is_query_context, query_contexts_are_wrong};
+ghost use Rattle.wire_json.specs.Asked.{rows_asked, asks_for_reserved_context, is_query_context};
+ghost use Rattle.wire_json.specs.Asked.{query_contexts_are_wrong};
 ghost use Rattle.wire_json.specs.Asked.{has_wrong_boost};
 
 use crate::members::{member, text, whole};

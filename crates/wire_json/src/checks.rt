@@ -40,7 +40,8 @@ fn lane_of(lanes: u32, lane: Option<&Value>) -> Option<u32>
     }
 }
 
-/// The worker of a line without an error.
+/// The worker of a line without an error; of one whose worker is none it is the first, and nobody
+/// asks for that.
 pub fn lane_or_first(lanes: u32, lane: Option<&Value>) -> u32
     ensures { result ≡ lane_or_first lanes (option_map (λ v. view v.now) lane.entry) }
 {
@@ -127,6 +128,7 @@ pub fn check_suggest(
     if lane_of(lanes, lane).is_none() {
         return Err(LineError::Lane);
     }
+    // Only the cut asks for a token, so no prefix is refused as empty; the table stays whole.
     if any_is_empty(only) {
         return Err(LineError::Empty);
     }

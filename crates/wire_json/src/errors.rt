@@ -17,13 +17,13 @@ pub enum ErrorKind {
     Json,
     /// None of the forms of a command.
     Shape,
-    /// A worker that there isn't.
+    /// A worker that there isn't, or that is no whole number.
     Lane,
     /// An id that hasn't 1 to 255 bytes.
     Id,
     /// An input without a token.
     Empty,
-    /// A weight out of range, or that is no number and no digits.
+    /// A weight over the greatest, or that is neither a whole number nor a text of 1 to 20 digits.
     Weight,
     /// A byte in a key or a context that structures paths.
     Reserved,

@@ -1,5 +1,6 @@
 //! The form of a line's value.
-ghost use Rattle.std.specs.Prelude.{◌≡◌, ◌&&◌, nat_le, is_some, IfOk, IfSome, codes, map, option_map};
+ghost use Rattle.std.specs.Prelude.{◌≡◌, ◌&&◌, nat_le, is_some, IfOk, IfSome, codes, map};
+ghost use Rattle.std.specs.Prelude.{option_map};
 ghost use Rattle.sg_paths.specs.declared.limits.TheConstants.{MOST_SUGGESTIONS};
 ghost use Rattle.serde_json.specs.View.{view};
 ghost use Rattle.wire_json.specs.Members.{listed_at};
@@ -98,9 +99,12 @@ fn read_change(alloc: Global, how: Change, value: &Value) -> Result<Option<Form<
         (listed_at (codes "suggest") (view value.entry.now))) }
     ensures entries { IfOk result (λ form. IfSome form HasItsEntries) }
 {
+    let Some(id) = text(value, "id") else {
+        return Ok(None);
+    };
     let suggestions = listed_at(value, "suggest");
-    match (entries_of_document(alloc, suggestions)?, text(value, "id")) {
-        (Some(entries), Some(id)) => {
+    match entries_of_document(alloc, suggestions)? {
+        Some(entries) => {
             let lane = lane_given(value);
             let given = GivenChange {
                 how,
@@ -111,7 +115,7 @@ fn read_change(alloc: Global, how: Change, value: &Value) -> Result<Option<Form<
             };
             Ok(Some(Form::Change { given }))
         }
-        _ => Ok(None),
+        None => Ok(None),
     }
 }
 
@@ -151,7 +155,8 @@ fn read_suggest(value: &Value) -> Option<Form<'_>>
 
 /// The form of a line's value, if it has one.
 pub fn read_form(alloc: Global, value: &Value) -> Result<Option<Form<'_>>, AllocError>
-    ensures form { IfOk result (λ form. option_map plain_form form ≡ form_of (view value.entry.now)) }
+    ensures form { IfOk result (λ form.
+        option_map plain_form form ≡ form_of (view value.entry.now)) }
     ensures entries { IfOk result (λ form. IfSome form HasItsEntries) }
 {
     match text(value, "op") {

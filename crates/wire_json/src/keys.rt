@@ -1,10 +1,12 @@
 //! The keys of texts in lines.
-ghost use Rattle.std.specs.Prelude.{◌≡◌, ◌<◌, IsTrue, if◌then◌else◌, nat_le, Ok, Err, IfOk, All, length, map};
+ghost use Rattle.std.specs.Prelude.{◌≡◌, ◌<◌, IsTrue, if◌then◌else◌, nat_le, Ok, Err, IfOk, All};
+ghost use Rattle.std.specs.Prelude.{length, map};
 ghost use Rattle.wire_json.specs.declared.keys.KeyFault.TheVariants.{TooLong};
 ghost use Rattle.std.specs.List.{list_any};
 ghost use Rattle.sg_analysis.specs.Analysis.{analysis_of};
 ghost use Rattle.sg_paths.specs.declared.limits.TheConstants.{MOST_TEXT_BYTES};
-ghost use Rattle.wire_json.specs.LineErrors.{keyed_by, input_key, prefix_key, is_refused_as_empty, is_refused_as_reserved};
+ghost use Rattle.wire_json.specs.LineErrors.{keyed_by, input_key, prefix_key, is_refused_as_empty};
+ghost use Rattle.wire_json.specs.LineErrors.{is_refused_as_reserved};
 ghost use Rattle.wire_json.specs.LineErrors.{is_refused_as_too_long};
 ghost use Rattle.wire_json.specs.EntryForms.{plain_entry};
 
@@ -17,10 +19,10 @@ use std::alloc::{AllocError, Global};
 /// Why a text has no key.
 #[derive(Clone, Copy, Debug, PartialEq, Eq)]
 pub enum KeyFault {
-    /// No token.
-    Empty,
     /// A reserved byte in the folded text.
     Reserved,
+    /// No token.
+    Empty,
     /// More than 1,024 bytes, or a key of more than 255.
     TooLong,
 }
@@ -29,7 +31,8 @@ pub enum KeyFault {
 pub type Keyed = Result<Key, KeyFault>;
 
 fn unless_long(text: &str, key: Key) -> Keyed
-    ensures value { result ≡ if nat_le (length text.now) MOST_TEXT_BYTES then Ok key else Err TooLong }
+    ensures value { result
+        ≡ if nat_le (length text.now) MOST_TEXT_BYTES then Ok key else Err TooLong }
     ensures same { IfOk result (λ k. k ≡ key) }
 {
     if text.len() <= MOST_TEXT_BYTES {
@@ -40,7 +43,8 @@ fn unless_long(text: &str, key: Key) -> Keyed
 }
 
 fn keyed(alloc: Global, analyzer: &Analyzer, text: &str, cut: bool) -> Result<Keyed, AllocError>
-    ensures value { IfOk result (λ r. r ≡ keyed_by text.now (analysis_of analyzer.now text.now cut)) }
+    ensures value { IfOk result (λ r.
+        r ≡ keyed_by text.now (analysis_of analyzer.now text.now cut)) }
     ensures filled { IfOk result (λ r. IsTrue cut → IfOk r (λ k. 0 < length k)) }
 {
     match analyzer.key(alloc, text, cut) {

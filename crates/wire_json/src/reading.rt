@@ -154,20 +154,21 @@ fn command_by_text(
     }
 }
 
-fn is_blank_at(byte: u8) -> bool
+fn is_blank_byte(byte: u8) -> bool
     ensures { result ≡ is_blank_byte byte }
 {
     byte == b' ' || byte == b'\t' || byte == b'\r'
 }
 
-fn is_a_blank(line: &[u8]) -> bool
+fn is_blank(line: &[u8]) -> bool
     ensures { result ≡ is_blank line.now }
 {
-    line.iter().all(|byte| is_blank_at(*byte))
+    line.iter().all(|byte| is_blank_byte(*byte))
 }
 
-/// What a line asks for, without its line feed, where there are `lanes` workers. Reads the line once
-/// and analyses each of its texts once. The errors in order: those of `LineError`.
+/// What a line asks for, without its line feed, where there are `lanes` workers. The line's value
+/// is read once, and each of its texts is analysed once. The errors in order: those of `LineError`,
+/// but `Memory` may come in place of any from `Json` on.
 pub fn command(
     alloc: Global,
     line: &[u8],
@@ -181,7 +182,7 @@ pub fn command(
     if line.len() > MOST_LINE_BYTES {
         return Err(LineError::Long);
     }
-    if is_a_blank(line) {
+    if is_blank(line) {
         return Ok(Command::Blank);
     }
     command_by_text(alloc, lanes, analyzer, line)

@@ -1,14 +1,18 @@
 //! The suggestions of a line, as they are given.
-ghost use Rattle.std.specs.Prelude.{◌≡◌, ◌≤◌, ◌++◌, ◌∷◌, [], IfOk, IfSome, OnOk, map, option_map, option_to_list};
+ghost use Rattle.std.specs.Prelude.{◌≡◌, ◌≤◌, ◌++◌, ◌∷◌, [], IfOk, IfSome, OnOk, map, option_map};
+ghost use Rattle.std.specs.Prelude.{option_to_list};
 ghost use Rattle.std.specs.Prelude.{option_and_then};
 ghost use Rattle.std.specs.List.{list_all, list_any, filter_map};
 ghost use Rattle.serde_json.specs.View.{view};
 ghost use Rattle.serde_json.specs.Find.{as_str};
 ghost use Rattle.sg_base.specs.declared.limits.TheConstants.{MOST_WEIGHT};
 ghost use Rattle.wire_json.specs.Members.{is_text, listed};
-ghost use Rattle.wire_json.specs.Suggested.{input_of, is_suggestion, texts_of, entry_of, entries_in, entries_of};
-ghost use Rattle.wire_json.specs.Suggested.{are_digits, number_of_digits, weight_upto, weight_given};
-ghost use Rattle.wire_json.specs.Suggested.{weight_of, contexts_given, has_reserved_byte, has_context_length};
+ghost use Rattle.wire_json.specs.Suggested.{input_of, is_suggestion, texts_of, entry_of};
+ghost use Rattle.wire_json.specs.Suggested.{entries_in, entries_of};
+ghost use Rattle.wire_json.specs.Suggested.{are_digits, number_of_digits, weight_upto};
+ghost use Rattle.wire_json.specs.Suggested.{weight_given};
+ghost use Rattle.wire_json.specs.Suggested.{weight_of, contexts_given, has_reserved_byte};
+ghost use Rattle.wire_json.specs.Suggested.{has_context_length};
 ghost use Rattle.wire_json.specs.Suggested.{is_reserved_context, is_context_text, is_digit};
 ghost use Rattle.wire_json.specs.Suggested.{has_wrong_weight, has_reserved_context};
 ghost use Rattle.wire_json.specs.Suggested.{has_wrong_contexts};
@@ -54,8 +58,8 @@ fn are_texts(values: &[Value]) -> bool
     values.iter().all(|value| is_text(value))
 }
 
-/// Whether it has an input, a text or a list of texts.
-pub fn is_suggestion(value: &Value) -> bool
+// Whether it has an input, a text or a list of texts.
+fn is_suggestion(value: &Value) -> bool
     ensures { result ≡ is_suggestion (view value.now) }
 {
     match input(value) {
@@ -211,7 +215,7 @@ fn is_context_text(value: &Value) -> bool
     }
 }
 
-fn any_is_reserved(contexts: &[Value]) -> bool
+fn any_context_is_reserved(contexts: &[Value]) -> bool
     ensures { result ≡ list_any is_reserved_context (map view contexts.now) }
 {
     contexts.iter().any(|context| is_reserved_context(context))
@@ -232,7 +236,7 @@ fn has_wrong_weight(suggestion: &Value) -> bool
 fn has_reserved_context(suggestion: &Value) -> bool
     ensures { result ≡ has_reserved_context (view suggestion.now) }
 {
-    any_is_reserved(contexts(suggestion))
+    any_context_is_reserved(contexts(suggestion))
 }
 
 fn has_wrong_contexts(suggestion: &Value) -> bool

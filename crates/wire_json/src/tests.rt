@@ -27,6 +27,7 @@ const LINES: &str = r#"   ==> blank
 {"op":"add","id":"a","suggest":[{"input":"\u001f"},{"input":[],"weight":"+1"}]} ==> weight
 {"op":"add","id":"a","suggest":[{"input":"a","contexts":[1,"\u0000"]}]} ==> reserved
 {"op":"suggest","prefix":"a","contexts":{"context":"\u001d","boost":0},"k":0} ==> reserved
+{"op":"add","id":"a","suggest":{"input":"\ufdfa\ufdfa\ufdfa\ufdfa\ufdfa\ufdfa\ufdfa\ufdfa","contexts":7}} ==> key
 {"op":"suggest","prefix":"a","contexts":[{"boost":0}],"k":0} ==> contexts
 {"op":"suggest","prefix":"a","contexts":{"context":"x","boost":"1"},"k":0} ==> boost
 {"op":"suggest","prefix":"a","k":1001} ==> k"#;

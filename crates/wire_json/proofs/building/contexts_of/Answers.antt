@@ -1,3 +1,4 @@
+-- Each context is within its limits, as all are.
 use Rattle.std.proofs.Common.{arith}
 use Rattle.std.proofs.lemmas.Grind.{common_steps}
 use Rattle.wire_json.specs.Suggested.{is_reserved_context, is_context_text}

@@ -1,3 +1,4 @@
+-- So far the contexts are those of the values.
 use Rattle.std.proofs.Common.{◌≡◌, map, take, length}
 use Rattle.std.specs.List.{filter_map}
 use Rattle.serde_json.specs.View.{view}

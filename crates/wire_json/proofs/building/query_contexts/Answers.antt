@@ -1,3 +1,4 @@
+-- Each query context is without an error, as all are.
 use Rattle.std.proofs.Common.{map}
 use Rattle.serde_json.specs.View.{view}
 use Rattle.wire_json.specs.Asked.{is_query_context, asks_for_reserved_context, has_wrong_boost}

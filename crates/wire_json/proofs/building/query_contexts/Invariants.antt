@@ -1,3 +1,4 @@
+-- So far the query contexts are those of the values.
 use Rattle.std.proofs.Common.{◌≡◌, map, take}
 use Rattle.serde_json.specs.View.{view}
 use Rattle.wire_json.specs.Asked.{query_context_of}

@@ -1,3 +1,4 @@
+-- What is made, continued by what is to come, is the whole.
 use Rattle.std.proofs.Common.{◌≡◌, ◌++◌, map, drop, length}
 use Rattle.std.specs.Vec.Iter.{into_iter_items}
 use Rattle.wire_json.specs.EntryForms.{plain_entry}

@@ -1,3 +1,4 @@
+-- So far the keys are those of the entries, and none is empty.
 use Rattle.std.proofs.Common.{◌≡◌, ◌<◌, map, take, length, IfOk}
 use Rattle.std.specs.List.{All}
 use Rattle.wire_json.specs.LineErrors.{input_key}

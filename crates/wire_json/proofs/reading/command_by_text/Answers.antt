@@ -1,3 +1,4 @@
+-- A line goes by its value, and one without a value is refused.
 use Rattle.std.proofs.Common.{sym, ◌∙◌, IfErr, subst}
 use Rattle.std.proofs.lemmas.Result.{IfOk-weaker}
 use Rattle.wire_json.specs.Commands.{Command}

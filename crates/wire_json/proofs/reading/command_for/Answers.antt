@@ -1,3 +1,4 @@
+-- A delete needs no analyzer.
 use Rattle.std.proofs.lemmas.Result.{IfOk-weaker, IfErr-weaker}
 use Rattle.wire_json.proofs.reading.command_for.Goals as goal
 

@@ -1,3 +1,4 @@
+-- The check speaks of the key of the prefix, and the query is that of the options.
 use Rattle.std.proofs.Common.{[], ◌∷◌, option_map, ap, ◌∙◌}
 use Rattle.serde_json.specs.View.{view}
 use Rattle.wire_json.specs.LineErrors.{Keyed}

@@ -1,3 +1,4 @@
+-- So far the values are those of the rows.
 use Rattle.std.proofs.Common.{◌≡◌, take, map}
 use Rattle.serde_json.specs.View.{view}
 use Rattle.wire_json.specs.Replies.{row_data}

@@ -1,3 +1,4 @@
+-- Where all are tested, all are tested by their views.
 use Rattle.std.proofs.Common.{rules, ◌∙◌, tests}
 use Rattle.std.proofs.lemmas.Iterator.{YieldsList-from_slice}
 use Rattle.std.proofs.lemmas.Iterator.Search.{all_from_yields_List}
@@ -8,6 +9,7 @@ use Rattle.wire_json.proofs.suggested.are_texts.Goals as goal
 
 pub returns : goal.returns
 returns c =
-    let values = all_from_yields_List (λ v. is_text (view v)) _ _ c.all.result c.all.ensures.ran
-    (YieldsList-from_slice c.args.values.now cc) (λ x b q k. search (rules, tests)) in
+    let values = all_from_yields_List (λ v. is_text (view v)) _ _ c.all.result
+    c.all.ensures.ran (YieldsList-from_slice c.args.values.now cc)
+    (λ x b q k. search (rules, tests)) in
     values ∙ list_all_of_views is_text c.args.values.now

@@ -1,3 +1,4 @@
+-- So far the entries are those of the suggestions.
 use Rattle.std.proofs.Common.{◌≡◌, map, take}
 use Rattle.serde_json.specs.View.{view}
 use Rattle.wire_json.specs.Suggested.{entries_of}

@@ -1,3 +1,4 @@
+-- One text more brings its entry.
 use Rattle.serde_json.specs.View.{view}
 use Rattle.wire_json.proofs.SuggestedLemmas.{appended_more, entries_more}
 use Rattle.wire_json.proofs.suggested.push_entries.Goals as goal

@@ -1,3 +1,4 @@
+-- So far the entries of the texts stand behind those that were there.
 use Rattle.std.proofs.Common.{◌≡◌, ◌++◌, map, take}
 use Rattle.std.specs.List.{filter_map}
 use Rattle.serde_json.specs.View.{view}
@@ -10,4 +11,5 @@ abbrev pub invariant-loop-input : goal.invariant-loop-input
 invariant-loop-input l =
     map plain_entry l.entries.items
     ≡ map plain_entry l.fn.entries.items
-    ++ map (entry_of (view l.given)) (filter_map as_str (map view (take l.input-index l.input-items)))
+    ++ map (entry_of (view l.given))
+    (filter_map as_str (map view (take l.input-index l.input-items)))

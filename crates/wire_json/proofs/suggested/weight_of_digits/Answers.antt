@@ -1,3 +1,4 @@
+-- Digits that aren't read as a number are no weight.
 use Rattle.std.proofs.Common.{sym}
 use Rattle.wire_json.proofs.SuggestedLemmas.{digits_over}
 use Rattle.wire_json.proofs.suggested.weight_of_digits.Goals as goal
