@@ -83,13 +83,24 @@ pub record Used : Type 0 where
   pub suggestions : List Data
   pub options : Option QueryOptions
 
+-- what a change of suggestions uses
+abbrev pub used_by_change : Option Data → List ℕ → List Data → Used
+used_by_change lane id ds =
+    record { lane = lane; id = Some id; suggestions = ds; options = None }
+
+-- what a delete uses
+abbrev pub used_by_delete : Option Data → List ℕ → Used
+used_by_delete lane id = record { lane = lane; id = Some id; suggestions = []; options = None }
+
+-- what a query uses
+abbrev pub used_by_query : Option Data → QueryOptions → Used
+used_by_query lane o = record { lane = lane; id = None; suggestions = []; options = Some o }
+
 -- what each form uses
 abbrev pub used : Form → Used
-used (change how lane id ds) =
-    record { lane = lane; id = Some id; suggestions = ds; options = None }
-used (delete lane id) = record { lane = lane; id = Some id; suggestions = []; options = None }
-used (suggest lane prefix o) =
-    record { lane = lane; id = None; suggestions = []; options = Some o }
+used (change how lane id ds) = used_by_change lane id ds
+used (delete lane id) = used_by_delete lane id
+used (suggest lane prefix o) = used_by_query lane o
 
 -- the errors in order, each with whether it applies
 abbrev pub errors_by : ℕ → Used → List Keyed → List (ErrorKind × Bool)

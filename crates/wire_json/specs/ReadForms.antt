@@ -1,12 +1,11 @@
 -- The code's forms, which borrow from a line's value, as plain data, and what the code knows of a
 -- form without an error. No public clause cites it. Source: this project's own.
-use Rattle.std.specs.Prelude.{◌≡◌, true, ℕ, List, [], map, Option, Some, None, option_map, ⊤}
+use Rattle.std.specs.Prelude.{◌≡◌, true, List, map, Option, option_map, ⊤}
 use Rattle.std.specs.Borrow.{Bor}
 use Rattle.serde_json.specs.View.{view}
 use Rattle.serde_json.specs.declared.value.Value.{Value}
 use Rattle.wire_json.specs.Suggested.{entries_of}
 use Rattle.wire_json.specs.Asked.{QueryOptions}
-use Rattle.wire_json.specs.LineErrors.{Used}
 use Rattle.wire_json.specs.Forms as plain
 use Rattle.wire_json.specs.EntryForms.{plain_entry}
 use Rattle.wire_json.specs.declared.forms.GivenChange.{GivenChange}
@@ -47,33 +46,3 @@ abbrev pub HasItsEntries : Form → Type 0
 HasItsEntries (Change given) = EntriesFit given
 HasItsEntries (Delete lane id) = ⊤
 HasItsEntries (Suggest given) = ⊤
-
--- what a change uses of its line, by the code's values
-abbrev pub used_by_change : Option (Bor Value) → List ℕ → List Value → Used
-used_by_change lane id suggestions =
-    record {
-      lane = option_map (λ v. view v.now) lane;
-      id = Some id;
-      suggestions = map view suggestions;
-      options = None;
-    }
-
--- what a delete uses
-abbrev pub used_by_delete : Option (Bor Value) → List ℕ → Used
-used_by_delete lane id =
-    record {
-      lane = option_map (λ v. view v.now) lane;
-      id = Some id;
-      suggestions = [];
-      options = None;
-    }
-
--- what a query uses
-abbrev pub used_by_query : Option (Bor Value) → Option (Bor Value) → List Value → Used
-used_by_query lane k contexts =
-    record {
-      lane = option_map (λ v. view v.now) lane;
-      id = None;
-      suggestions = [];
-      options = Some (plain_options k contexts);
-    }

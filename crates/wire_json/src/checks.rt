@@ -4,10 +4,11 @@ ghost use Rattle.std.specs.Prelude.{[], ◌∷◌};
 ghost use Rattle.serde_json.specs.View.{view};
 ghost use Rattle.sg_paths.specs.Documents.{is_id};
 ghost use Rattle.wire_json.specs.Asked.{rows_asked};
-ghost use Rattle.wire_json.specs.LineErrors.{lane_of, errors_by, first_that_applies};
+ghost use Rattle.wire_json.specs.LineErrors.{lane_of, used_by_change, used_by_delete};
+ghost use Rattle.wire_json.specs.LineErrors.{used_by_query, errors_by, first_that_applies};
 ghost use Rattle.wire_json.specs.Commands.{lane_or_first};
 ghost use Rattle.wire_json.specs.CommandForms.{kind_of};
-ghost use Rattle.wire_json.specs.ReadForms.{used_by_change, used_by_delete, used_by_query};
+ghost use Rattle.wire_json.specs.ReadForms.{plain_options};
 ghost use Rattle.wire_json.specs.ReadyForms.{AreKeys, AreSuggestions, AreAsked};
 
 use crate::asked::{
@@ -60,9 +61,11 @@ pub fn check_change(
     keys: &[Keyed],
 ) -> Result<(), LineError>
     ensures ok { OnOk result (first_that_applies (errors_by lanes
-        (used_by_change lane.entry id.now suggestions.now) keys.now) ≡ None) }
+        (used_by_change (option_map (λ v. view v.now) lane.entry) id.now
+        (map view suggestions.now)) keys.now) ≡ None) }
     ensures refused { IfErr result (λ e. first_that_applies (errors_by lanes
-        (used_by_change lane.entry id.now suggestions.now) keys.now) ≡ kind_of e) }
+        (used_by_change (option_map (λ v. view v.now) lane.entry) id.now
+        (map view suggestions.now)) keys.now) ≡ kind_of e) }
     ensures id { OnOk result (is_id id.now ≡ true) }
     ensures keys { OnOk result (AreKeys keys.now) }
     ensures suggestions { OnOk result (AreSuggestions (map view suggestions.now)) }
@@ -94,9 +97,9 @@ pub fn check_change(
 /// A delete.
 pub fn check_delete(lanes: u32, lane: Option<&Value>, id: &str) -> Result<(), LineError>
     ensures ok { OnOk result (first_that_applies (errors_by lanes
-        (used_by_delete lane.entry id.now) []) ≡ None) }
+        (used_by_delete (option_map (λ v. view v.now) lane.entry) id.now) []) ≡ None) }
     ensures refused { IfErr result (λ e. first_that_applies (errors_by lanes
-        (used_by_delete lane.entry id.now) []) ≡ kind_of e) }
+        (used_by_delete (option_map (λ v. view v.now) lane.entry) id.now) []) ≡ kind_of e) }
 {
     if lane_of(lanes, lane).is_none() {
         return Err(LineError::Lane);
@@ -116,9 +119,11 @@ pub fn check_suggest(
     key: &Keyed,
 ) -> Result<(), LineError>
     ensures ok { OnOk result (first_that_applies (errors_by lanes
-        (used_by_query lane.entry k.entry contexts.now) (key.now ∷ [])) ≡ None) }
+        (used_by_query (option_map (λ v. view v.now) lane.entry)
+        (plain_options k.entry contexts.now)) (key.now ∷ [])) ≡ None) }
     ensures refused { IfErr result (λ e. first_that_applies (errors_by lanes
-        (used_by_query lane.entry k.entry contexts.now) (key.now ∷ [])) ≡ kind_of e) }
+        (used_by_query (option_map (λ v. view v.now) lane.entry)
+        (plain_options k.entry contexts.now)) (key.now ∷ [])) ≡ kind_of e) }
     ensures key { OnOk result (AreKeys (key.now ∷ [])) }
     ensures contexts { OnOk result (AreAsked (map view contexts.now)) }
     ensures rows { OnOk result (is_none (rows_asked (option_map (λ v. view v.now) k.entry))
