@@ -12,8 +12,8 @@ use Rattle.index_core.specs.Calls.{begun_by}
 use Rattle.index_core.specs.OpenViews.{PlainParts, HoldsFirst, operations_of, view_of}
 use Rattle.index_core.specs.declared.limits.TheConstants.{MOST_BUFFERED}
 use Rattle.index_core.proofs.ViewLemmas.{open_views-skip}
-use Rattle.wire_json.specs.Rows.{Row}
-use Rattle.wire_json.specs.Replies.{rows}
+use Rattle.wire_replies.specs.Rows.{Row}
+use Rattle.wire_replies.specs.Replies.{rows}
 use Rattle.sg_shell.specs.Answers.{rows_of}
 use Rattle.sg_shell.specs.Runs.{caller}
 use Rattle.sg_shell.proofs.RunLemmas.{gains-begin, gains-freeze}

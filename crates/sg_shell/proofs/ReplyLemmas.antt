@@ -4,7 +4,7 @@ use Rattle.std.proofs.Common.{ap, ◌∙◌, append_assoc, append-nil}
 use Rattle.std.proofs.lemmas.Grind.{flat_map-append}
 use Rattle.index_core.specs.Histories.{Record}
 use Rattle.wire_json.specs.Commands.{command_of}
-use Rattle.wire_json.specs.Replies.{Reply, reply_text}
+use Rattle.wire_replies.specs.Replies.{Reply, reply_text}
 use Rattle.sg_shell.specs.Lines.{lines_of}
 use Rattle.sg_shell.specs.Runs.{Line, Said, said, step, numbered_from, transcript_from, standard}
 use Rattle.sg_shell.specs.Runs.{printed, output}

@@ -13,9 +13,9 @@ use Rattle.sg_paths.specs.Operations.{Operation, documents_from}
 use Rattle.sg_paths.specs.LiveDocuments.{live_documents, deletes_id}
 use Rattle.index_core.specs.declared.limits.TheConstants.{MOST_OPERATIONS}
 use Rattle.wire_json.specs.Commands.{accepts, suggests, refused}
-use Rattle.wire_json.specs.Replies.{numbered, rows, failed}
-use Rattle.wire_json.specs.declared.errors.ErrorKind.{ErrorKind}
-use Rattle.wire_json.specs.declared.errors.ErrorKind.TheVariants.{Full}
+use Rattle.wire_replies.specs.Replies.{numbered, rows, failed}
+use Rattle.wire_replies.specs.declared.error_kind.ErrorKind.{ErrorKind}
+use Rattle.wire_replies.specs.declared.error_kind.ErrorKind.TheVariants.{Full}
 use Rattle.sg_shell.specs.Answers.{rows_of}
 use Rattle.sg_shell.specs.Runs.{Said}
 use Rattle.sg_shell.specs.Sessions.{number_printed, upto_printed, numbered_operation, IsFull}

@@ -7,7 +7,7 @@ use Rattle.sg_context.specs.Queries.{PlainQuery}
 use Rattle.sg_paths.specs.Documents.{PlainSuggestion}
 use Rattle.sg_paths.specs.Operations.{NumberedDocument}
 use Rattle.sg_answers.specs.Answers.{first_rows}
-use Rattle.wire_json.specs.Rows.{Row}
+use Rattle.wire_replies.specs.Rows.{Row}
 
 -- the text of the suggestion at a place
 abbrev pub text_at : ℕ → List PlainSuggestion → List ℕ

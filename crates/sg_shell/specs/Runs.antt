@@ -10,8 +10,8 @@ use Rattle.index_core.specs.Histories.{Record, accepted}
 use Rattle.index_core.specs.Calls.{empty_record, after_accept, after_begin, after_end, begun_by}
 use Rattle.index_core.specs.declared.limits.TheConstants.{MOST_OPERATIONS}
 use Rattle.wire_json.specs.Commands.{Command, accepts, suggests, refused, command_of}
-use Rattle.wire_json.specs.Replies.{Reply, numbered, rows, failed, reply_text}
-use Rattle.wire_json.specs.declared.errors.ErrorKind.TheVariants.{Full}
+use Rattle.wire_replies.specs.Replies.{Reply, numbered, rows, failed, reply_text}
+use Rattle.wire_replies.specs.declared.error_kind.ErrorKind.TheVariants.{Full}
 use Rattle.sg_shell.specs.Lines.{lines_of}
 use Rattle.sg_shell.specs.Answers.{rows_of}
 use Rattle.sg_shell.specs.declared.engine.TheConstants.{LANES}

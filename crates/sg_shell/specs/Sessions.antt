@@ -8,9 +8,9 @@ use Rattle.sg_paths.specs.Operations.{Operation}
 use Rattle.sg_paths.specs.LiveDocuments.{live_documents}
 use Rattle.index_core.specs.declared.limits.TheConstants.{MOST_OPERATIONS}
 use Rattle.wire_json.specs.Commands.{Command, blank, accepts, suggests, refused}
-use Rattle.wire_json.specs.Replies.{Reply, numbered, rows, failed}
-use Rattle.wire_json.specs.Rows.{Row}
-use Rattle.wire_json.specs.declared.errors.ErrorKind.TheVariants.{Full}
+use Rattle.wire_replies.specs.Replies.{Reply, numbered, rows, failed}
+use Rattle.wire_replies.specs.Rows.{Row}
+use Rattle.wire_replies.specs.declared.error_kind.ErrorKind.TheVariants.{Full}
 use Rattle.sg_shell.specs.Answers.{rows_of}
 use Rattle.sg_shell.specs.Runs.{Said, input_lines, output}
 

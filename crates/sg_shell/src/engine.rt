@@ -6,7 +6,7 @@ ghost use Rattle.index_core.specs.Histories.{open_views};
 ghost use Rattle.index_core.specs.OpenViews.{operations_of};
 ghost use Rattle.wire_json.specs.Commands.{command_of};
 ghost use Rattle.wire_json.specs.CommandForms.{plain_command, IsRead};
-ghost use Rattle.wire_json.specs.ReplyForms.{plain_reply};
+ghost use Rattle.wire_replies.specs.ReplyForms.{plain_reply};
 ghost use Rattle.sg_shell.specs.Answers.{rows_of};
 ghost use Rattle.sg_shell.specs.Runs.{accept_step, suggest_step, step, standard};
 

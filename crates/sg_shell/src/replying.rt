@@ -1,6 +1,6 @@
 //! The replies to an input.
 ghost use Rattle.std.specs.Prelude.{◌≡◌, ◌≤◌, ◌^◌, ◌++◌, OnOk, IfOk, length, option_map};
-ghost use Rattle.wire_json.specs.ReplyForms.{plain_reply};
+ghost use Rattle.wire_replies.specs.ReplyForms.{plain_reply};
 ghost use Rattle.sg_shell.specs.Runs.{printed, output_of};
 
 use crate::engine::answer;

@@ -22,8 +22,8 @@ use Rattle.wire_json.specs.Commands.{suggestion_of, operation_by, lane_or_first,
 use Rattle.wire_json.specs.Commands.{command_of_form, command_of_value, command_of_text, value_of}
 use Rattle.wire_json.specs.CommandForms.{kind_of, Refuses}
 use Rattle.wire_json.specs.ReadyForms.{suggestions_by}
-use Rattle.wire_json.specs.declared.errors.ErrorKind.{ErrorKind}
-use Rattle.wire_json.specs.declared.errors.ErrorKind.TheVariants.{Json}
+use Rattle.wire_replies.specs.declared.error_kind.ErrorKind.{ErrorKind}
+use Rattle.wire_replies.specs.declared.error_kind.ErrorKind.TheVariants.{Json}
 use Rattle.wire_json.specs.declared.errors.LineError.{LineError}
 use Rattle.wire_json.specs.declared.forms.Change.{Change}
 use Rattle.wire_json.proofs.ReadyLemmas.{suggestions_by-keys}

@@ -2,6 +2,3 @@ pub mod MemberLemmas
 pub mod SuggestedLemmas
 pub mod ReadyLemmas
 pub mod CommandLemmas
-pub mod ReplyLemmas
-pub mod LineFeedLemmas
-pub mod ToldLemmas

@@ -2,8 +2,8 @@
 use Rattle.std.specs.Prelude.{◌≡◌, Option, Some, None, ⊤, IfSome}
 use Rattle.sg_paths.specs.Operations.{operation_of}
 use Rattle.wire_json.specs.Commands as plain
-use Rattle.wire_json.specs.declared.errors.ErrorKind.{ErrorKind}
-use Rattle.wire_json.specs.declared.errors.ErrorKind.TheVariants as kinds
+use Rattle.wire_replies.specs.declared.error_kind.ErrorKind.{ErrorKind}
+use Rattle.wire_replies.specs.declared.error_kind.ErrorKind.TheVariants as kinds
 use Rattle.wire_json.specs.declared.errors.LineError.{LineError}
 use Rattle.wire_json.specs.declared.errors.LineError.TheVariants as errors
 use Rattle.wire_json.specs.declared.commands.Command.{Command}

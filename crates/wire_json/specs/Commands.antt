@@ -20,8 +20,8 @@ use Rattle.wire_json.specs.LineErrors.{Keyed, input_key, prefix_key, lane_of, er
 use Rattle.wire_json.specs.declared.forms.Change.{Change}
 use Rattle.wire_json.specs.declared.forms.Change.TheVariants.{Add, Update}
 use Rattle.wire_json.specs.declared.limits.TheConstants.{MOST_LINE_BYTES, DEFAULT_WEIGHT}
-use Rattle.wire_json.specs.declared.errors.ErrorKind.{ErrorKind}
-use Rattle.wire_json.specs.declared.errors.ErrorKind.TheVariants.{Long, Json, Shape}
+use Rattle.wire_replies.specs.declared.error_kind.ErrorKind.{ErrorKind}
+use Rattle.wire_replies.specs.declared.error_kind.ErrorKind.TheVariants.{Long, Json, Shape}
 
 -- nothing; an operation for a worker; a query for a worker, in a view by name or in none; the other
 -- words; or the error of the line itself

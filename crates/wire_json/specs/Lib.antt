@@ -1,7 +1,3 @@
-pub mod Rows
-pub mod Replies
-pub mod ReplyForms
-pub mod WrittenReplies
 pub mod Members
 pub mod Suggested
 pub mod EntryForms

@@ -20,9 +20,10 @@ use Rattle.wire_json.specs.Asked.{have_wrong_boost, have_wrong_row_count}
 use Rattle.wire_json.specs.Forms.{Form, change, delete, suggest}
 use Rattle.wire_json.specs.declared.keys.KeyFault.{KeyFault}
 use Rattle.wire_json.specs.declared.keys.KeyFault.TheVariants as faults
-use Rattle.wire_json.specs.declared.errors.ErrorKind.{ErrorKind}
-use Rattle.wire_json.specs.declared.errors.ErrorKind.TheVariants.{Lane, Id, Empty, Weight}
-use Rattle.wire_json.specs.declared.errors.ErrorKind.TheVariants.{Reserved, Key, Contexts, Boost, K}
+use Rattle.wire_replies.specs.declared.error_kind.ErrorKind.{ErrorKind}
+use Rattle.wire_replies.specs.declared.error_kind.ErrorKind.TheVariants.{Lane, Id, Empty, Weight}
+use Rattle.wire_replies.specs.declared.error_kind.ErrorKind.TheVariants.{Reserved, Key, Contexts}
+use Rattle.wire_replies.specs.declared.error_kind.ErrorKind.TheVariants.{Boost, K}
 
 -- the key of a text, or the first reason why it has none
 abbrev pub Keyed : Type 0

@@ -1,30 +1,24 @@
-//! From a line of input to its command, and from a reply to its line of output. Contracts see a
-//! line as bytes, a command and a reply as plain data, and JSON by `serde_json`'s definitions.
+//! From a line of input to its command. Contracts see a line as bytes, a command as plain data, and
+//! JSON by `serde_json`'s definitions. Replies and their lines are handed on from `wire_replies`.
 #![tactic(auto)]
 
 mod asked;
 mod building;
 mod checks;
 mod commands;
-mod error_names;
 mod errors;
 mod forms;
 mod keys;
 mod limits;
 mod members;
 mod reading;
-mod replies;
-mod reply_lines;
 mod suggested;
 
 pub use commands::Command;
-pub use errors::{ErrorKind, LineError};
+pub use errors::LineError;
 pub use limits::{DEFAULT_WEIGHT, MOST_LINE_BYTES, MOST_WEIGHT_DIGITS};
 pub use reading::command;
-pub use replies::{OutRow, Reply};
-pub use reply_lines::{replies_with_the_same_data_are_the_same, reply};
+pub use wire_replies::{ErrorKind, OutRow, Reply, reply};
 
-#[cfg(test)]
-mod reply_tests;
 #[cfg(test)]
 mod tests;

@@ -133,3 +133,46 @@ fn a_line_has_65536_bytes_at_most(rt: HostRuntime) -> Result<(), Fail> {
     assert_eq!(rt; told_line(alloc, line.as_str())?.as_str(), "long");
     Ok(())
 }
+
+const LINE_ERRORS: [LineError; 13] = [
+    LineError::Long,
+    LineError::Json,
+    LineError::Shape,
+    LineError::Lane,
+    LineError::Id,
+    LineError::Empty,
+    LineError::Weight,
+    LineError::Reserved,
+    LineError::Key,
+    LineError::Contexts,
+    LineError::Boost,
+    LineError::K,
+    LineError::Memory,
+];
+
+const SHOWN_LINE_ERRORS: &str = "the line is refused: long
+the line is refused: json
+the line is refused: shape
+the line is refused: lane
+the line is refused: id
+the line is refused: empty
+the line is refused: weight
+the line is refused: reserved
+the line is refused: key
+the line is refused: contexts
+the line is refused: boost
+the line is refused: k
+out of memory
+";
+
+#[test]
+fn errors_of_lines_are_shown(rt: HostRuntime) -> Result<(), Fail> {
+    let alloc = rt.alloc();
+    let mut shown = String::new(alloc);
+    for error in LINE_ERRORS {
+        shown.push_str(error.to_string(alloc)?.as_str())?;
+        shown.push('\n')?;
+    }
+    assert_eq!(rt; shown.as_str(), SHOWN_LINE_ERRORS);
+    Ok(())
+}

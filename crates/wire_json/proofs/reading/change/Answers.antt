@@ -15,7 +15,8 @@ returns-in-Err-clause-refused c =
     let given = c.args.given.now in
     let of = ap (map plain_entry) c.as_slice-entries.ensures.value ∙ c.requires.are in
     let lane = option_map (λ v. view v.now) given.lane in
-    let same = keys_of-change c.args.analyzer.now given.how lane given.id.now (map view given.suggestions.now) _ _ of
+    let same = keys_of-change c.args.analyzer.now given.how lane given.id.now
+    (map view given.suggestions.now) _ _ of
     (c.as_slice.ensures.value ∙ c.in_ok-keys.ensures.value) in
     refused-error_of_form c.args.analyzer.now c.args.lanes (plain_change given)
     c.as_slice.result.now c.in-Err.error same c.in-Err.ensures.refused

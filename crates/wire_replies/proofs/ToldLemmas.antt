@@ -10,15 +10,17 @@ use Rattle.serde_json.specs.Data.{Data, Items, no_items, item}
 use Rattle.serde_json.specs.Find.{get, as_number, as_u64, as_str, as_array}
 use Rattle.serde_json.specs.View.{items_of}
 use Rattle.sg_base.specs.Cuts.{PlainCut}
-use Rattle.wire_json.specs.Rows.{Row}
-use Rattle.wire_json.specs.Replies.{Reply, numbered, rows, opened, closed, built, merged, accepted}
-use Rattle.wire_json.specs.Replies.{failed, error_name, row_data, cut_data, reply_data}
-use Rattle.wire_json.specs.WrittenReplies.{HasByteKey, DataTellTheReply}
-use Rattle.wire_json.specs.declared.errors.ErrorKind.{ErrorKind}
-use Rattle.wire_json.specs.declared.errors.ErrorKind.TheVariants.{Long, Json, Shape, Lane, Id}
-use Rattle.wire_json.specs.declared.errors.ErrorKind.TheVariants.{Empty, Weight, Reserved, Key}
-use Rattle.wire_json.specs.declared.errors.ErrorKind.TheVariants.{Contexts, Boost, K, View, Full}
-use Rattle.wire_json.specs.declared.errors.ErrorKind.TheVariants.{Views}
+use Rattle.wire_replies.specs.Rows.{Row}
+use Rattle.wire_replies.specs.Replies.{Reply, numbered, rows, opened, closed, built, merged}
+use Rattle.wire_replies.specs.Replies.{accepted}
+use Rattle.wire_replies.specs.Replies.{failed, error_name, row_data, cut_data, reply_data}
+use Rattle.wire_replies.specs.WrittenReplies.{HasByteKey, DataTellTheReply}
+use Rattle.wire_replies.specs.declared.error_kind.ErrorKind.{ErrorKind}
+use Rattle.wire_replies.specs.declared.error_kind.ErrorKind.TheVariants.{Long, Json, Shape, Lane}
+use Rattle.wire_replies.specs.declared.error_kind.ErrorKind.TheVariants.{Id, Empty, Weight}
+use Rattle.wire_replies.specs.declared.error_kind.ErrorKind.TheVariants.{Reserved, Key, Contexts}
+use Rattle.wire_replies.specs.declared.error_kind.ErrorKind.TheVariants.{Boost, K, View, Full}
+use Rattle.wire_replies.specs.declared.error_kind.ErrorKind.TheVariants.{Views}
 
 -- whether there is a member of that name, its number, and its text
 abbrev has_member : List ℕ → Data → Bool

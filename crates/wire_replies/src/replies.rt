@@ -1,6 +1,6 @@
 //! Replies.
 
-use crate::errors::ErrorKind;
+use crate::error_kind::ErrorKind;
 use sg_base::{Cut, List, Text};
 use std::marker::Model;
 
@@ -14,7 +14,7 @@ pub struct OutRow {
 }
 
 impl Model for OutRow {
-    ghost use Rattle.wire_json.specs.Rows.{Row};
+    ghost use Rattle.wire_replies.specs.Rows.{Row};
 
     ghost Value = { Row };
 

@@ -4,11 +4,12 @@ ghost use Rattle.hex.specs.Hex.{encode_lower};
 ghost use Rattle.serde_json.specs.View.{view};
 ghost use Rattle.serde_json.specs.Read.{read};
 ghost use Rattle.serde_json.specs.Written.{compact_text};
-ghost use Rattle.wire_json.specs.Replies.{row_data, row_list, reply_data, reply_text, cut_data};
-ghost use Rattle.wire_json.specs.Replies.{counted_behind, counted_before, named_before, rows_data};
-ghost use Rattle.wire_json.specs.Replies.{opened_data};
-ghost use Rattle.wire_json.specs.ReplyForms.{plain_reply};
-ghost use Rattle.wire_json.specs.WrittenReplies.{IsLine, read_line, DataTellTheReply};
+ghost use Rattle.wire_replies.specs.Replies.{row_data, row_list, reply_data, reply_text, cut_data};
+ghost use Rattle.wire_replies.specs.Replies.{counted_behind, counted_before, named_before};
+ghost use Rattle.wire_replies.specs.Replies.{rows_data};
+ghost use Rattle.wire_replies.specs.Replies.{opened_data};
+ghost use Rattle.wire_replies.specs.ReplyForms.{plain_reply};
+ghost use Rattle.wire_replies.specs.WrittenReplies.{IsLine, read_line, DataTellTheReply};
 
 use crate::error_names::error_name;
 use crate::replies::{OutRow, Reply};

@@ -1,8 +1,8 @@
 -- The code's replies as plain data. Source: this project's own.
-use Rattle.wire_json.specs.Replies as plain
-use Rattle.wire_json.specs.declared.replies.Reply.{Reply}
-use Rattle.wire_json.specs.declared.replies.Reply.TheVariants.{Seq, Rows, Opened, Closed, Built}
-use Rattle.wire_json.specs.declared.replies.Reply.TheVariants.{Merged, Accepted, Error}
+use Rattle.wire_replies.specs.Replies as plain
+use Rattle.wire_replies.specs.declared.replies.Reply.{Reply}
+use Rattle.wire_replies.specs.declared.replies.Reply.TheVariants.{Seq, Rows, Opened, Closed, Built}
+use Rattle.wire_replies.specs.declared.replies.Reply.TheVariants.{Merged, Accepted, Error}
 
 -- a reply as plain data
 abbrev pub plain_reply : Reply → plain.Reply

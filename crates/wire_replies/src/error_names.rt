@@ -1,8 +1,8 @@
 //! The names of errors in replies.
 ghost use Rattle.std.specs.Prelude.{◌≡◌};
-ghost use Rattle.wire_json.specs.Replies.{error_name as printed_name};
+ghost use Rattle.wire_replies.specs.Replies.{error_name as printed_name};
 
-use crate::errors::ErrorKind;
+use crate::error_kind::ErrorKind;
 
 /// The error's name in a reply.
 pub fn error_name(error: ErrorKind) -> &'static str

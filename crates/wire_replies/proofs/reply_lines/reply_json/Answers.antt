@@ -4,9 +4,9 @@ use Rattle.serde_json.specs.View.{view}
 use Rattle.serde_json.specs.Data.{depth}
 use Rattle.serde_json.specs.Read.{max_depth}
 use Rattle.serde_json.specs.Written.{has_float, compact_text}
-use Rattle.wire_json.specs.ReplyForms.{plain_reply}
-use Rattle.wire_json.proofs.ReplyLemmas.{reply_data_has_float, depth-reply_data}
-use Rattle.wire_json.proofs.reply_lines.reply_json.Goals as goal
+use Rattle.wire_replies.specs.ReplyForms.{plain_reply}
+use Rattle.wire_replies.proofs.ReplyLemmas.{reply_data_has_float, depth-reply_data}
+use Rattle.wire_replies.proofs.reply_lines.reply_json.Goals as goal
 
 pub returns-clause-text : goal.returns-clause-text
 returns-clause-text c =

@@ -5,8 +5,9 @@ use Rattle.std.specs.List.{before_first}
 use Rattle.hex.specs.Hex.{IsBytes}
 use Rattle.serde_json.specs.Data.{Data}
 use Rattle.serde_json.specs.Read.{read}
-use Rattle.wire_json.specs.Replies.{Reply, numbered, rows, opened, closed, built, merged, accepted}
-use Rattle.wire_json.specs.Replies.{failed, reply_data}
+use Rattle.wire_replies.specs.Replies.{Reply, numbered, rows, opened, closed, built, merged}
+use Rattle.wire_replies.specs.Replies.{accepted}
+use Rattle.wire_replies.specs.Replies.{failed, reply_data}
 
 -- what stands before the first line feed
 abbrev pub text_of : List ℕ → List ℕ

@@ -7,12 +7,13 @@ use Rattle.serde_json.specs.Data.{member, no_members}
 use Rattle.serde_json.specs.View.{items_of}
 use Rattle.serde_json.specs.Written.{compact_text}
 use Rattle.sg_base.specs.Cuts.{PlainCut}
-use Rattle.wire_json.specs.Rows.{Row}
-use Rattle.wire_json.specs.declared.errors.ErrorKind.{ErrorKind}
-use Rattle.wire_json.specs.declared.errors.ErrorKind.TheVariants.{Long, Json, Shape, Lane, Id}
-use Rattle.wire_json.specs.declared.errors.ErrorKind.TheVariants.{Empty, Weight, Reserved, Key}
-use Rattle.wire_json.specs.declared.errors.ErrorKind.TheVariants.{Contexts, Boost, K, View, Full}
-use Rattle.wire_json.specs.declared.errors.ErrorKind.TheVariants.{Views}
+use Rattle.wire_replies.specs.Rows.{Row}
+use Rattle.wire_replies.specs.declared.error_kind.ErrorKind.{ErrorKind}
+use Rattle.wire_replies.specs.declared.error_kind.ErrorKind.TheVariants.{Long, Json, Shape, Lane}
+use Rattle.wire_replies.specs.declared.error_kind.ErrorKind.TheVariants.{Id, Empty, Weight}
+use Rattle.wire_replies.specs.declared.error_kind.ErrorKind.TheVariants.{Reserved, Key, Contexts}
+use Rattle.wire_replies.specs.declared.error_kind.ErrorKind.TheVariants.{Boost, K, View, Full}
+use Rattle.wire_replies.specs.declared.error_kind.ErrorKind.TheVariants.{Views}
 
 -- what a line is answered; the first number is the line's
 pub data Reply : Type 0 where

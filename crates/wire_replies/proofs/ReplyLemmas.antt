@@ -6,9 +6,10 @@ use Rattle.serde_json.specs.Data.{depth, items_depth}
 use Rattle.serde_json.specs.View.{items_of}
 use Rattle.serde_json.specs.Read.{max_depth}
 use Rattle.serde_json.specs.Written.{has_float, items_have_float}
-use Rattle.wire_json.specs.Rows.{Row}
-use Rattle.wire_json.specs.Replies.{Reply, numbered, rows, opened, closed, built, merged, accepted}
-use Rattle.wire_json.specs.Replies.{failed, row_data, reply_data}
+use Rattle.wire_replies.specs.Rows.{Row}
+use Rattle.wire_replies.specs.Replies.{Reply, numbered, rows, opened, closed, built, merged}
+use Rattle.wire_replies.specs.Replies.{accepted}
+use Rattle.wire_replies.specs.Replies.{failed, row_data, reply_data}
 
 rows_have_float : (rs : List Row) → items_have_float (items_of (map row_data rs)) ≡ false
 rows_have_float [] = refl

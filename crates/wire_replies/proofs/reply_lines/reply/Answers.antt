@@ -4,11 +4,11 @@ use Rattle.std.specs.Str.{IsUtf8}
 use Rattle.std.proofs.lemmas.Str.{IsUtf8-append, IsUtf8-from_ascii}
 use Rattle.serde_json.specs.Read.{read}
 use Rattle.serde_json.specs.Written.{compact_text}
-use Rattle.wire_json.specs.Replies.{reply_data}
-use Rattle.wire_json.specs.ReplyForms.{plain_reply}
-use Rattle.wire_json.specs.WrittenReplies.{text_of}
-use Rattle.wire_json.proofs.LineFeedLemmas.{text_of-compact_text}
-use Rattle.wire_json.proofs.reply_lines.reply.Goals as goal
+use Rattle.wire_replies.specs.Replies.{reply_data}
+use Rattle.wire_replies.specs.ReplyForms.{plain_reply}
+use Rattle.wire_replies.specs.WrittenReplies.{text_of}
+use Rattle.wire_replies.proofs.LineFeedLemmas.{text_of-compact_text}
+use Rattle.wire_replies.proofs.reply_lines.reply.Goals as goal
 
 -- the bytes are the text and a line feed
 ended : (c : goal.In_ok-push) → c.push.new.self.items

@@ -11,7 +11,7 @@ use Rattle.serde_json.specs.Data.{Num, unsigned, negative, float, Data, null, bo
 use Rattle.serde_json.specs.Data.{string, array, object, Items, no_items, item, Members, no_members}
 use Rattle.serde_json.specs.Data.{member}
 use Rattle.serde_json.specs.Written.{number_text, comma_if, compact_text, items_text, members_text}
-use Rattle.wire_json.specs.WrittenReplies.{text_of}
+use Rattle.wire_replies.specs.WrittenReplies.{text_of}
 
 -- whether a line feed is among the bytes
 abbrev pub has_line_feed : List ℕ → Bool

@@ -1,0 +1,4 @@
+pub mod Rows
+pub mod Replies
+pub mod ReplyForms
+pub mod WrittenReplies
