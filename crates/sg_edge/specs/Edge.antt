@@ -1,5 +1,5 @@
 -- Bytes that move over the edge, and the faults that are counted there. Source: this project's own.
-use Rattle.std.specs.Prelude.{◌≡◌, ◌≤◌, ◌<◌, ◌+◌, ◌-◌, ◌^◌, ◌++◌, ◌==◌, ℕ, min, List, []}
+use Rattle.std.specs.Prelude.{◌≡◌, ◌<◌, ◌+◌, ◌-◌, ◌^◌, ◌++◌, ◌==◌, ℕ, min, List, []}
 use Rattle.std.specs.Prelude.{Option, Some, None, option_map, Result, Ok, Err, Bool, false, ⊤}
 
 -- these bytes in front of what is there, where that is told
@@ -33,12 +33,11 @@ greatest_count = 2 ^ 64 - 1
 abbrev pub counted : ℕ → ℕ
 counted n = min (n + 1) greatest_count
 
--- the count rose in between, as one at its greatest is taken to have done
-pub record Rose (before now : ℕ) : Type 0 where
-  pub never_less : before ≤ now
-  pub more : before < greatest_count → before < now
+-- one more was counted in between, as where the count is at its greatest is taken to have been
+abbrev pub Rose : ℕ → ℕ → Type 0
+Rose before now = now ≡ counted before
 
--- a take fails only where the count of faults rose, and an Ok leaves it
+-- a take fails only where it met a fault, which is counted once, and an Ok leaves the count
 abbrev pub TakeCause : {T E : Type 0} → ℕ → ℕ → Result T E → Type 0
 TakeCause before now (Ok value) = now ≡ before
 TakeCause before now (Err error) = Rose before now

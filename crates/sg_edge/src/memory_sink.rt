@@ -70,8 +70,6 @@ impl Sink for MemorySink {
         ensures failed { IsErrOf result PutError.Failed
             ↔ Contains self.old.fails (counted self.old.calls) }
         ensures exact { IfOk result (λ n. n ≡ length piece.now) }
-        ensures fault { IsErrOf result PutError.Failed →
-            self.new.faults ≡ counted self.old.faults }
         ensures next { IsAtNextCall self.old self.new }
     {
         self.calls = self.calls.saturating_add(1);

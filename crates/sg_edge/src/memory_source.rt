@@ -136,7 +136,6 @@ impl Source for MemorySource {
         ensures failed { IsErr result ↔ Contains self.old.fails (counted self.old.calls) }
         ensures exact { IfOk result
             (λ n. n ≡ length (next_bytes self.old.by_line (length into.new) self.old.left)) }
-        ensures fault { OnErr result (self.new.faults ≡ counted self.old.faults) }
         ensures next { IsAtNextCall self.old self.new }
     {
         self.calls = self.calls.saturating_add(1);

@@ -1,6 +1,5 @@
 //! A sink over a writer of std.
-ghost use Rattle.std.specs.Prelude.{◌≡◌, ◌≤◌, None, length, IfOk, OnErr, IsErrOf};
-ghost use Rattle.sg_edge.specs.Edge.{counted};
+ghost use Rattle.std.specs.Prelude.{◌≡◌, ◌≤◌, None, length, IfOk, IsErrOf};
 ghost use Rattle.sg_edge.specs.Puts.{PutCause};
 
 use crate::sink::{PutError, Sink};
@@ -42,9 +41,8 @@ impl<W: Write> Sink for StdSink<W> {
         ensures zero { IfOk result (λ n. n ≡ 0 → length piece.now ≡ 0) }
         ensures cause { PutCause self.old.faults self.new.faults result }
 
-        // The one refusal is a fault, and is counted once.
+        // The one refusal is a fault.
         ensures memory { IsErrOf result PutError.Memory → ⊥ }
-        ensures fault { OnErr result (self.new.faults ≡ counted self.old.faults) }
     {
         match self.writer.write(piece) {
             Ok(count) if count > 0 || piece.is_empty() => Ok(count),

@@ -1,6 +1,6 @@
 //! A source over a reader of std.
-ghost use Rattle.std.specs.Prelude.{◌≡◌, ◌≤◌, ◌<◌, None, false, length, IfOk, OnErr};
-ghost use Rattle.sg_edge.specs.Edge.{counted, is_end, TakeCause};
+ghost use Rattle.std.specs.Prelude.{◌≡◌, ◌≤◌, ◌<◌, None, false, length, IfOk};
+ghost use Rattle.sg_edge.specs.Edge.{is_end, TakeCause};
 
 use crate::source::{Failed, Source};
 use std::io::Read;
@@ -47,9 +47,6 @@ impl<R: Read> Source for StdSource<R> {
         ensures ended { 0 < length into.new → self.new.ended ≡ is_end result }
         ensures unchanged { length into.new ≡ 0 → self.new.ended ≡ self.old.ended }
         ensures cause { TakeCause self.old.faults self.new.faults result }
-
-        // A fault is counted once.
-        ensures fault { OnErr result (self.new.faults ≡ counted self.old.faults) }
     {
         let taken = self.reader.read(into).map_err(|_| Failed);
         if taken.is_err() {
