@@ -11,9 +11,9 @@ use Rattle.std.specs.Cmp.Lexicographic.{bytes_decides}
 use Rattle.std.proofs.lemmas.Bool.{ltb-true, eqb-true}
 use Rattle.std.proofs.lemmas.List.{append-nil}
 use Rattle.std.proofs.lemmas.List.Elements.{filter_map-append}
-use Rattle.sg_base.specs.Ranking.{rank_cmp}
+use Rattle.sg_base.specs.Ranking.{rank_cmp, rank_cmp_total}
 use Rattle.sg_base.specs.declared.rank.Rank.{Rank}
-use Rattle.sg_base.proofs.RankLemmas.{rank_cmp_total, rank_cmp_exact}
+use Rattle.sg_base.proofs.RankLemmas.{rank_cmp_exact}
 use Rattle.sg_context.specs.Boosts.{IsBoost, boost_of}
 use Rattle.sg_context.specs.Queries.{PlainQuery}
 use Rattle.sg_context.proofs.BoostLemmas.{boost_of-IsBoost}
