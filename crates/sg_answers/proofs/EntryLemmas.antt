@@ -4,22 +4,22 @@ use Rattle.std.proofs.Common.{◌≡◌, ◌⊎◌, inl, inr, ℕ, ◌+◌, ◌*
 use Rattle.std.proofs.Common.{◌&&◌, ◌||◌, List, [], ◌∷◌, map, Option, Some, None, refl}
 use Rattle.std.proofs.Common.{sym, ap, ◌∙◌, arith, length, get_or, drop, drop-cons, add-one}
 use Rattle.std.proofs.Math.Nat.{mul-le-mul_right}
-use Rattle.std.specs.Prelude.{nat_eq, nat_lt, filter_map, option_map, All}
+use Rattle.std.specs.Prelude.{nat_eq, nat_lt, bytes_eq, filter_map, option_map, All}
 use Rattle.std.specs.List.{starts_with}
 use Rattle.std.specs.Ordering.{is_lt}
 use Rattle.std.specs.Cmp.Lexicographic.{bytes_decides}
 use Rattle.std.proofs.lemmas.Bool.{ltb-true, eqb-true}
 use Rattle.std.proofs.lemmas.List.{append-nil}
 use Rattle.std.proofs.lemmas.List.Elements.{filter_map-append}
-use Rattle.sg_base.specs.Ranking.{rank_cmp}
+use Rattle.sg_base.specs.Ranking.{rank_cmp, rank_cmp_total}
 use Rattle.sg_base.specs.declared.rank.Rank.{Rank}
-use Rattle.sg_base.proofs.RankLemmas.{rank_cmp_total, rank_cmp_exact}
+use Rattle.sg_base.proofs.RankLemmas.{rank_cmp_exact}
 use Rattle.sg_context.specs.Boosts.{IsBoost, boost_of}
 use Rattle.sg_context.specs.Queries.{PlainQuery}
 use Rattle.sg_context.proofs.BoostLemmas.{boost_of-IsBoost}
 use Rattle.sg_paths.specs.Documents.{PlainSuggestion}
 use Rattle.sg_paths.specs.Operations.{NumberedDocument}
-use Rattle.sg_paths.specs.Paths.{PlainPath, same_bytes, distinct_texts, contexts_of, entries_from}
+use Rattle.sg_paths.specs.Paths.{PlainPath, distinct_texts, contexts_of, entries_from}
 use Rattle.sg_paths.specs.Paths.{is_kept_over}
 use Rattle.sg_answers.specs.Answers.{path_boost, path_rank, rank_with, first_rank, document_row}
 use Rattle.sg_answers.specs.Scans.{sooner, given_contexts, greatest_boost, first_entry}
@@ -48,8 +48,8 @@ wins p q false true true is-more is-same is-less is =
 wins p q false true false is-more is-same is-less is = cc
 wins p q false false less is-more is-same is-less is = cc
 
-kept_at : (p q : PlainPath) (context key won : Bool) → same_bytes p.context q.context ≡ context
-    → same_bytes p.key q.key ≡ key → (won ≡ true → Wins p q)
+kept_at : (p q : PlainPath) (context key won : Bool) → bytes_eq p.context q.context ≡ context
+    → bytes_eq p.key q.key ≡ key → (won ≡ true → Wins p q)
     → (context && key && won) ≡ true → IsKeptOver p q
 kept_at p q true true true is-context is-key wins is = record {
   context = (bytes_decides p.context q.context).0 is-context;
@@ -131,7 +131,7 @@ soonest-distinct : (h : List ℕ → Option Rank) (texts : List (List ℕ))
     → soonest rank_cmp h (distinct_texts texts) ≡ soonest rank_cmp h texts
 soonest-distinct h [] = refl
 soonest-distinct h (text ∷ texts) =
-    soonest-repeat rank_cmp rank_cmp_total rank_cmp_exact h (λ other. same_bytes other text) text
+    soonest-repeat rank_cmp rank_cmp_total rank_cmp_exact h (λ other. bytes_eq other text) text
     (λ other same. ap h ((bytes_decides other text).0 same)) (distinct_texts texts)
     ∙ ap (sooner rank_cmp (h text)) (soonest-distinct h texts)
 

@@ -3,15 +3,15 @@ use Rattle.std.proofs.Common.{◌≡◌, Bool, true, false, cond, not, List, [],
 use Rattle.std.proofs.Common.{◌++◌, suc, Option, Some, None, refl, sym, ap, ◌∙◌, arith, Ordering}
 use Rattle.std.specs.Prelude.{filter, filter_map, slice_get, All, Any, Contains}
 use Rattle.std.specs.List.{list_any}
-use Rattle.std.specs.Ordering.{is_lt, ordering_reverse}
-use Rattle.std.specs.declared.cmp.Ordering.TheVariants.{Less, Equal, Greater}
+use Rattle.std.specs.Ordering.{is_lt}
+use Rattle.std.specs.declared.cmp.Ordering.TheVariants.{Equal}
 use Rattle.std.specs.Cmp.{IsTotalOrder, IsStrictWeakOrder}
-use Rattle.std.proofs.lemmas.Cmp.{tied_itself}
 use Rattle.std.proofs.lemmas.List.MinMax.{ranks_by}
 use Rattle.std.proofs.lemmas.List.Elements.{All-nil, All-cons, All-contains, All-weaker}
 use Rattle.std.proofs.lemmas.List.Elements.{Contains-append_right}
 use Rattle.std.proofs.lemmas.List.Folds.{Any-from_list_any}
 use Rattle.sg_base.specs.Ranking.{put_in, in_order}
+use Rattle.sg_base.proofs.Sorting.{not_below_itself, neither_below}
 use Rattle.sg_answers.specs.Scans.{sooner}
 
 -- the first of what h gives of the items
@@ -56,35 +56,24 @@ module _ {X : Type 0} (R : X → X → Ordering) (total : IsTotalOrder R)
   strict : IsStrictWeakOrder (λ x y. is_lt (R x y))
   strict = ranks_by total (λ (x : X). x)
 
-  not_below_itself : (x : X) → is_lt (R x x) ≡ false
-  not_below_itself x = ap is_lt (tied_itself total x)
-
   below_both : (x y z : X) (b : Bool) → is_lt (R z x) ≡ b → is_lt (R z y) ≡ true
       → is_lt (R y x) ≡ true → is_lt (R z x) ≡ true
   below_both x y z true is p q = is
   below_both x y z false is p q =
       let no : true ≡ false = sym q ∙ strict.chain y z x (strict.one_way z y p) is in cc
 
-  neither_below : (o : Ordering) (x y : X) → R x y ≡ o → is_lt (R x y) ≡ false
-      → is_lt (R y x) ≡ false → x ≡ y
-  neither_below Less x y is p q = let no : true ≡ false = sym (ap is_lt is) ∙ p in cc
-  neither_below Equal x y is p q = same x y is
-  neither_below Greater x y is p q =
-      let back : R y x ≡ Less = total.antisymm y x ∙ ap ordering_reverse is in
-      let no : true ≡ false = sym (ap is_lt back) ∙ q in cc
-
   -- ---- of two that there may be
 
   pub sooner-itself : (a : Option X) → sooner R a a ≡ a
   sooner-itself None = refl
-  sooner-itself (Some x) = rw (not_below_itself x) refl
+  sooner-itself (Some x) = rw (not_below_itself R total same x) refl
 
   comm_at : (x y : X) (b c : Bool) → is_lt (R y x) ≡ b → is_lt (R x y) ≡ c
       → cond (is_lt (R y x)) y x ≡ cond (is_lt (R x y)) x y
   comm_at x y true true p q = let no : true ≡ false = sym q ∙ strict.one_way y x p in cc
   comm_at x y true false p q = rw (p, q) refl
   comm_at x y false true p q = rw (p, q) refl
-  comm_at x y false false p q = rw (p, q) (neither_below (R x y) x y refl q p)
+  comm_at x y false false p q = rw (p, q) (neither_below R total same (R x y) x y refl q p)
 
   pub sooner-comm : (a b : Option X) → sooner R a b ≡ sooner R b a
   sooner-comm None None = refl
@@ -213,7 +202,7 @@ module _ {X : Type 0} (R : X → X → Ordering) (total : IsTotalOrder R)
       let taken : Some w ≡ Some x = rw before at first in
       let e : w ≡ x = cc in
       let no : true ≡ false =
-      sym before ∙ (ap (λ v. is_lt (R v x)) e ∙ not_below_itself x) in
+      sym before ∙ (ap (λ v. is_lt (R v x)) e ∙ not_below_itself R total same x) in
       cc
 
   -- so an item over which another is kept doesn't come first

@@ -10,7 +10,7 @@ use Rattle.std.proofs.lemmas.List.Kept.{IsNonDecreasingBy-filter}
 use Rattle.sg_paths.specs.Documents.{PlainDocument}
 use Rattle.sg_paths.specs.Operations.{Operation, added_document, NumberedDocument, documents_from}
 use Rattle.sg_paths.specs.LiveDocuments.{is_deleted, live_documents}
-use Rattle.sg_answers.specs.Scans.{with_number}
+use Rattle.sg_answers.specs.Scans.{if_numbered}
 
 -- what a test of the numbers parts
 pub parted : (n i : ℕ) (ds : List NumberedDocument)
@@ -32,7 +32,7 @@ find-none n (d ∷ ds) all =
 -- the first document is the only one that may have the number
 first_only : (n : ℕ) (d : NumberedDocument) (ds : List NumberedDocument)
     → IsNonDecreasingBy (λ e. e.seq) (d ∷ ds) → n ≤ d.seq → (d.seq ≡ n) ⊎ (d.seq ≡ n → ⊥)
-    → find (λ e. e.seq == n) (d ∷ ds) ≡ with_number n (Some d)
+    → find (λ e. e.seq == n) (d ∷ ds) ≡ if_numbered n (Some d)
 first_only n d ds rising least (inl same) =
     let is : (d.seq == n) ≡ true = eq-eqb d.seq n same in
     rw is refl
@@ -45,7 +45,7 @@ first_only n d ds rising least (inr other) =
 -- what stands behind those with a lesser number, if it has the number
 pub find-at : (n i : ℕ) (ds : List NumberedDocument) → IsNonDecreasingBy (λ d. d.seq) ds
     → IsPartitionPoint (λ d. d.seq < n) (λ d. n ≤ d.seq) ds i
-    → find (λ d. d.seq == n) ds ≡ with_number n (slice_get ds i)
+    → find (λ d. d.seq == n) ds ≡ if_numbered n (slice_get ds i)
 find-at n i [] rising parts = refl
 find-at n zero (d ∷ ds) rising parts =
     first_only n d ds rising (parts.1 0 d (omega arith) (omega arith)) (cases_eq d.seq n)

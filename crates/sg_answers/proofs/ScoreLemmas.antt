@@ -8,9 +8,9 @@ use Rattle.std.specs.Ordering.{is_lt, nat_cmp}
 use Rattle.std.specs.declared.cmp.Ordering.TheVariants.{Less}
 use Rattle.std.proofs.lemmas.Bool.{cases_lt, lt-ltb}
 use Rattle.std.proofs.lemmas.Cmp.{tied_itself, nat_cmp_total, nat_list_cmp_total}
-use Rattle.sg_base.specs.Ranking.{rank_cmp}
+use Rattle.sg_base.specs.Ranking.{rank_cmp, rank_cmp_total}
 use Rattle.sg_base.specs.declared.rank.Rank.{Rank}
-use Rattle.sg_base.proofs.RankLemmas.{rank_cmp_total, rank_cmp_exact}
+use Rattle.sg_base.proofs.RankLemmas.{rank_cmp_exact}
 use Rattle.sg_answers.specs.Scans.{sooner}
 use Rattle.sg_answers.proofs.FirstLemmas.{soonest, sooner-itself, sooner-comm}
 use Rattle.sg_answers.proofs.FirstLemmas.{sooner-assoc}

@@ -34,6 +34,6 @@ first_entry query seq place suggestions =
     first_rank (filter_map (path_rank query seq) (entries_from place suggestions))
 
 -- a document, where it has the number
-abbrev pub with_number : ℕ → Option NumberedDocument → Option NumberedDocument
-with_number n None = None
-with_number n (Some d) = if d.seq == n then Some d else None
+abbrev pub if_numbered : ℕ → Option NumberedDocument → Option NumberedDocument
+if_numbered n None = None
+if_numbered n (Some d) = if d.seq == n then Some d else None

@@ -1,13 +1,13 @@
 //! The answer to a query, by a scan over all documents.
 ghost use Rattle.std.specs.Prelude.{◌≡◌, ◌≤◌, [], ◌∷◌, IfOk, length, filter_map};
 ghost use Rattle.sg_paths.specs.declared.limits.TheConstants.{MOST_SUGGESTIONS};
+ghost use Rattle.sg_base.specs.Ranking.{rank_cmp};
 ghost use Rattle.sg_context.specs.Queries.{IsQuery};
 ghost use Rattle.sg_answers.specs.Answers.{document_row, first_rows};
-ghost use Rattle.sg_answers.specs.Scans.{given_contexts, greatest_boost, first_entry};
+ghost use Rattle.sg_answers.specs.Scans.{given_contexts, greatest_boost, first_entry, sooner};
 
-use crate::candidate::{Candidate, sooner};
 use crate::live_document::LiveDocument;
-use sg_base::{Context, Rank};
+use sg_base::{Context, Rank, RankRef};
 use sg_context::{Boost, Query, QueryContext, boost_of};
 use sg_paths::Suggestion;
 use std::alloc::{AllocError, Global};
@@ -37,7 +37,7 @@ fn candidate_of<'d>(
     seq: u64,
     place: u8,
     suggestion: &'d Suggestion,
-) -> Option<Candidate<'d>>
+) -> Option<RankRef<'d>>
     ensures { result ≡ first_entry query.now seq place (suggestion.now ∷ []) }
 {
     let key = &suggestion.key;
@@ -45,7 +45,7 @@ fn candidate_of<'d>(
         return None;
     }
     let boost = greatest_boost(query.contexts.items(), suggestion.contexts.items())?;
-    Some(Candidate {
+    Some(RankRef {
         score: u64::from(suggestion.weight) * u64::from(boost),
         key,
         seq,
@@ -53,11 +53,22 @@ fn candidate_of<'d>(
     })
 }
 
+// Of two that there may be the one that stands first.
+fn sooner<'d>(one: Option<RankRef<'d>>, other: Option<RankRef<'d>>) -> Option<RankRef<'d>>
+    ensures { result ≡ sooner rank_cmp one.entry other.entry }
+{
+    match (one, other) {
+        (None, other) => other,
+        (Some(one), None) => Some(one),
+        (Some(one), Some(other)) => Some(one.min(other)),
+    }
+}
+
 fn first_candidate<'d>(
     query: &Query,
     seq: u64,
     suggestions: &'d [Suggestion],
-) -> Option<Candidate<'d>>
+) -> Option<RankRef<'d>>
     requires { length suggestions.now ≤ MOST_SUGGESTIONS }
     ensures { result ≡ first_entry query.now seq 0 suggestions.now }
 {
@@ -71,7 +82,7 @@ fn first_candidate<'d>(
 }
 
 // The row of a document, if one of its suggestions matches.
-fn row_of_document<'p>(query: &Query, document: &LiveDocument<'p>) -> Option<Candidate<'p>>
+fn row_of_document<'p>(query: &Query, document: &LiveDocument<'p>) -> Option<RankRef<'p>>
     requires { IsQuery query.now }
     ensures { result ≡ document_row query.now document.now }
 {
@@ -83,7 +94,7 @@ fn rows_of<'p>(
     alloc: Global,
     query: &Query,
     documents: &[LiveDocument<'p>],
-) -> Result<Vec<Candidate<'p>>, AllocError>
+) -> Result<Vec<RankRef<'p>>, AllocError>
     requires { IsQuery query.now }
     ensures { IfOk result (λ rows. rows.items
         ≡ filter_map (document_row query.now) documents.now) }
@@ -94,12 +105,12 @@ fn rows_of<'p>(
         .collect(alloc)
 }
 
-fn ranks_of(alloc: Global, rows: &[Candidate<'_>]) -> Result<Vec<Rank>, AllocError>
+fn ranks_of(alloc: Global, rows: &[RankRef<'_>]) -> Result<Vec<Rank>, AllocError>
     ensures { IfOk result (λ ranks. ranks.items ≡ rows.now) }
 {
     let mut ranks = Vec::with_capacity(alloc, rows.len())?;
     for row in rows {
-        ranks.push(row.rank(alloc)?)?;
+        ranks.push(row.to_rank(alloc)?)?;
     }
     Ok(ranks)
 }

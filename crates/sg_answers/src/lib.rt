@@ -3,7 +3,6 @@
 #![tactic(auto)]
 
 mod answers;
-mod candidate;
 mod live_document;
 
 pub use answers::first_rows;

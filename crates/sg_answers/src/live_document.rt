@@ -2,7 +2,7 @@
 ghost use Rattle.std.specs.Prelude.{◌≡◌, ◌<◌, ◌≤◌, ◌==◌, find, slice_get};
 ghost use Rattle.std.specs.Option.{option_copied};
 ghost use Rattle.std.specs.List.Sorted.{IsNonDecreasingBy, IsPartitionPoint};
-ghost use Rattle.sg_answers.specs.Scans.{with_number};
+ghost use Rattle.sg_answers.specs.Scans.{if_numbered};
 
 use sg_paths::Document;
 use std::marker::Model;
@@ -36,7 +36,7 @@ fn document_at<'d, 'p>(
     at: usize,
     seq: u64,
 ) -> Option<&'d LiveDocument<'p>>
-    ensures { option_copied result ≡ with_number seq (slice_get documents.now at) }
+    ensures { option_copied result ≡ if_numbered seq (slice_get documents.now at) }
 {
     let document = documents.get(at)?;
     if document.seq == seq {

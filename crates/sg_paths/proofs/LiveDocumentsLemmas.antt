@@ -1,7 +1,7 @@
 -- What deletes and updates reach, and the live documents one operation at a time.
 use Rattle.std.proofs.Common.{◌≡◌, ℕ, zero, suc, ◌+◌, ◌<◌, ◌≤◌, Bool, true, false, not, List, []}
 use Rattle.std.proofs.Common.{◌∷◌, ◌++◌, length, take, drop, refl, sym, ◌∙◌, ap, arith}
-use Rattle.std.specs.Prelude.{filter}
+use Rattle.std.specs.Prelude.{filter, bytes_eq}
 use Rattle.std.proofs.lemmas.List.{append_assoc, take_all, drop-append-le, length-append, drop_all}
 use Rattle.std.proofs.lemmas.List.Elements.{filter-append}
 use Rattle.std.proofs.lemmas.List.Folds.{list_any-append}
@@ -11,7 +11,7 @@ use Rattle.std.specs.Cmp.Lexicographic.{nat_list_eq_equiv}
 use Rattle.sg_paths.specs.Documents.{PlainDocument}
 use Rattle.sg_paths.specs.Operations.{Operation, adds, updates, deletes, NumberedDocument}
 use Rattle.sg_paths.specs.Operations.{documents_from}
-use Rattle.sg_paths.specs.LiveDocuments.{same_id, deletes_id, is_deleted, live_documents, live_of}
+use Rattle.sg_paths.specs.LiveDocuments.{deletes_id, is_deleted, live_documents, live_of}
 use Rattle.sg_paths.specs.LiveDocuments.{ReachesEarlierDocumentsOnly, LeavesItsOwnDocumentAlone}
 
 -- past its place, nothing is left of an operation
@@ -138,7 +138,7 @@ stays before document d = not (is_deleted (updated before document) (length befo
 
 -- whether it has the update's id
 abbrev has_id : PlainDocument → NumberedDocument → Bool
-has_id document d = same_id d.document.id document.id
+has_id document d = bytes_eq d.document.id document.id
 
 -- no operation is left out
 whole : (before : List Operation) (document : PlainDocument)

@@ -1,21 +1,16 @@
 -- Deleted and live documents of a journal, the list of operations whose n-th has the number n.
 -- Source: Lucene's live docs, where a delete reaches only documents that were added before it.
-use Rattle.std.specs.Prelude.{◌≡◌, ℕ, ◌+◌, ◌<◌, Bool, false, not, nat_eq, List, [], ◌∷◌, ◌++◌}
-use Rattle.std.specs.Prelude.{length, filter, take, drop}
+use Rattle.std.specs.Prelude.{◌≡◌, ℕ, ◌+◌, ◌<◌, Bool, false, not, List, [], ◌∷◌, ◌++◌}
+use Rattle.std.specs.Prelude.{length, filter, take, drop, bytes_eq}
 use Rattle.std.specs.Option.{option_map_or}
 use Rattle.std.specs.List.{list_any}
-use Rattle.std.specs.Cmp.Lexicographic.{pointwise}
 use Rattle.sg_paths.specs.Documents.{PlainDocument}
 use Rattle.sg_paths.specs.Operations.{Operation, updates, deleted_id, NumberedDocument}
 use Rattle.sg_paths.specs.Operations.{documents_from}
 
--- whether two ids are the same bytes
-abbrev pub same_id : List ℕ → List ℕ → Bool
-same_id = pointwise nat_eq
-
 -- whether the operation deletes the documents with this id
 abbrev pub deletes_id : List ℕ → Operation → Bool
-deletes_id id operation = option_map_or (same_id id) (deleted_id operation) false
+deletes_id id operation = option_map_or (bytes_eq id) (deleted_id operation) false
 
 -- whether an operation after the document's own, and at most the upto-th, deletes its id
 abbrev pub is_deleted : List Operation → ℕ → NumberedDocument → Bool
@@ -44,6 +39,6 @@ ReachesEarlierDocumentsOnly =
 abbrev pub LeavesItsOwnDocumentAlone : Type 0
 LeavesItsOwnDocumentAlone =
     (before : List Operation) (document : PlainDocument)
-    → filter (λ d. same_id d.document.id document.id)
+    → filter (λ d. bytes_eq d.document.id document.id)
     (live_documents (before ++ updates document ∷ []) (length before + 1))
     ≡ record { seq = length before + 1; document = document } ∷ []

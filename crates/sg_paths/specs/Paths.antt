@@ -1,9 +1,8 @@
 -- The paths of a document: one for each pair of context and key. Source: Lucene's
 -- ContextSuggestField, whose contexts lead the key; which entry is kept is this project's own.
 use Rattle.std.specs.Prelude.{ℕ, Bool, not, nat_eq, nat_lt, ◌&&◌, ◌||◌, ◌+◌, List, [], ◌∷◌, ◌++◌}
-use Rattle.std.specs.Prelude.{map, filter}
+use Rattle.std.specs.Prelude.{map, filter, bytes_eq}
 use Rattle.std.specs.List.{list_any}
-use Rattle.std.specs.Cmp.Lexicographic.{pointwise}
 use Rattle.sg_paths.specs.Documents.{PlainSuggestion, PlainDocument}
 
 -- a key in a context, with the weight and the place from 0 of its suggestion
@@ -13,15 +12,11 @@ pub record PlainPath : Type 0 where
   pub weight : ℕ
   pub place : ℕ
 
--- whether two texts are the same bytes
-abbrev pub same_bytes : List ℕ → List ℕ → Bool
-same_bytes = pointwise nat_eq
-
 -- the texts, each once
 abbrev pub distinct_texts : List (List ℕ) → List (List ℕ)
 distinct_texts [] = []
 distinct_texts (text ∷ texts) =
-    text ∷ filter (λ other. not (same_bytes other text)) (distinct_texts texts)
+    text ∷ filter (λ other. not (bytes_eq other text)) (distinct_texts texts)
 
 -- the contexts of a suggestion: without any it has the empty one alone
 abbrev pub contexts_of : List (List ℕ) → List (List ℕ)
@@ -40,7 +35,7 @@ entries_from place (s ∷ later) =
 -- weight and a lesser place
 abbrev pub is_kept_over : PlainPath → PlainPath → Bool
 is_kept_over p q =
-    same_bytes p.context q.context && same_bytes p.key q.key
+    bytes_eq p.context q.context && bytes_eq p.key q.key
     && (nat_lt q.weight p.weight || (nat_eq p.weight q.weight && nat_lt p.place q.place))
 
 -- the entries over which none is kept

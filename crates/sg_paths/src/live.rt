@@ -3,7 +3,7 @@ ghost use Rattle.std.specs.Prelude.{◌≡◌, ◌++◌, map, length, OnOk, IfOk
 ghost use Rattle.std.specs.Option.{option_copied};
 ghost use Rattle.std.specs.List.{list_any};
 ghost use Rattle.sg_paths.specs.Operations.{operation_of, added_document};
-ghost use Rattle.sg_paths.specs.LiveDocuments.{same_id, deletes_id, live_documents, live_of};
+ghost use Rattle.sg_paths.specs.LiveDocuments.{deletes_id, live_documents, live_of};
 ghost use Rattle.sg_paths.specs.LiveDocuments.{ReachesEarlierDocumentsOnly};
 ghost use Rattle.sg_paths.specs.LiveDocuments.{LeavesItsOwnDocumentAlone};
 
@@ -11,12 +11,6 @@ use crate::document::Document;
 use crate::op::{Numbered, Op};
 use sg_base::Text;
 use std::alloc::{AllocError, Global};
-
-fn are_same_id(one: &Text, other: &Text) -> bool
-    ensures { result ≡ same_id one.now other.now }
-{
-    one.as_str().as_bytes() == other.as_str().as_bytes()
-}
 
 fn document_of(op: &Op) -> Option<&Document>
     ensures { option_copied result ≡ added_document (operation_of op.now) }
@@ -33,8 +27,8 @@ fn deletes(op: &Op, id: &Text) -> bool
 {
     match op {
         Op::Add(_) => false,
-        Op::Update(document) => are_same_id(id, &document.id),
-        Op::Delete(deleted) => are_same_id(id, deleted),
+        Op::Update(document) => id.as_str() == document.id.as_str(),
+        Op::Delete(deleted) => id.as_str() == deleted.as_str(),
     }
 }
 

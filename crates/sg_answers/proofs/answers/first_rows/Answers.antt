@@ -1,8 +1,8 @@
 -- The rows, sorted, are those in order, and as many as are asked for are copied.
 use Rattle.std.proofs.Common.{◌≡◌, ◌∙◌, refl}
-use Rattle.sg_base.specs.Ranking.{rank_cmp, in_order}
+use Rattle.sg_base.specs.Ranking.{rank_cmp, rank_cmp_total, in_order}
 use Rattle.sg_base.proofs.Sorting.{sorted_is_in_order}
-use Rattle.sg_base.proofs.RankLemmas.{rank_cmp_total, rank_cmp_exact}
+use Rattle.sg_base.proofs.RankLemmas.{rank_cmp_exact}
 use Rattle.sg_answers.specs.Answers.{first_rows}
 use Rattle.sg_answers.proofs.answers.first_rows.Goals as goal
 
