@@ -1,6 +1,6 @@
 -- The lemmas on the fields, by what the calls of the bodies say of each field.
 use Rattle.std.proofs.Common.{◌≡◌, ℕ, ◌+◌, ◌<◌, ◌≤◌, List, [], ◌∷◌, ◌++◌, ◌-◌, length, map, refl}
-use Rattle.std.proofs.Common.{true, sym, ◌∙◌, ap, arith}
+use Rattle.std.proofs.Common.{true, sym, ◌∙◌, ap, subst, arith}
 use Rattle.std.proofs.lemmas.Cmp.{nat_eq_equiv}
 use Rattle.std.proofs.lemmas.List.{length-append, map-append, take_at, append_assoc}
 use Rattle.std.proofs.lemmas.List.Elements.{Contains-push, Contains-append_left}
@@ -18,7 +18,7 @@ use Rattle.index_core.specs.OpenViews.{operations_of, documents_in, view_of, Hol
 use Rattle.index_core.specs.OpenViews.{frozen_piece, pieces_among}
 use Rattle.index_core.specs.Calls.{with_event, after_accept, after_freeze, after_begin, after_end}
 use Rattle.index_core.specs.Calls.{view_of_all, beginning, begun_by}
-use Rattle.index_core.specs.Representation.{Kept, record_of, IsKept}
+use Rattle.index_core.specs.Representation.{Kept, Stored, with_views, record_of, IsKept, Performs}
 use Rattle.index_core.proofs.HistoryLemmas.{skips}
 use Rattle.index_core.proofs.LegalLemmas.{are_legal}
 use Rattle.index_core.proofs.KeptLemmas.{accepting_last, kept_accept, after_accept-room}
@@ -28,21 +28,19 @@ use Rattle.index_core.proofs.ViewingLemmas.{new_view, view_is, opened, kept_begi
 use Rattle.index_core.proofs.ViewingLemmas.{kept_end, after_end-is}
 
 -- one event more, as the history has it
-pub mapped_one : (events same more : List Event) (event : Event)
-    → same ≡ events → more ≡ same ++ event ∷ []
+pub mapped_one : (events more : List Event) (event : Event)
+    → more ≡ events ++ event ∷ []
     → map event_of more ≡ map event_of events ++ event_of event ∷ []
-mapped_one events same more event stay pushed =
-    rw pushed (rw stay (map-append event_of events (event ∷ [])))
+mapped_one events more event pushed = rw pushed (map-append event_of events (event ∷ []))
 
 -- two events more
-pub mapped_two : (events same more all : List Event) (first second : Event)
-    → same ≡ events → more ≡ same ++ first ∷ [] → all ≡ more ++ second ∷ []
-    → map event_of all
-    ≡ (map event_of events ++ event_of first ∷ []) ++ event_of second ∷ []
-mapped_two events same more all first second stay pushed again =
-    mapped_one more more all second refl again
+pub mapped_two : (events more all : List Event) (first second : Event)
+    → more ≡ events ++ first ∷ [] → all ≡ more ++ second ∷ []
+    → map event_of all ≡ (map event_of events ++ event_of first ∷ []) ++ event_of second ∷ []
+mapped_two events more all first second pushed again =
+    mapped_one more all second again
     ∙ ap (λ (history : List HistoryEvent). history ++ event_of second ∷ [])
-    (mapped_one events same more first stay pushed)
+    (mapped_one events more first pushed)
 
 -- more room changes nothing
 pub after_room : {k : Kept} → IsKept k
@@ -72,16 +70,36 @@ after_room {k} kept history buffer places history-is buffer-is more =
       };
     }))
 
+-- a step that changes nothing
+pub still : {old new : Stored} → new ≡ old → Performs (λ r. r) 0 old new
+still {old} same = record {
+  step = λ begun opened _ kept.
+      let P : Stored → Type 0 = λ s. IsKept (with_views s begun opened)
+      × (record_of (with_views s begun opened) ≡ record_of (with_views old begun opened)) in
+      subst P (sym same) (kept, refl);
+}
+
+-- a step once there is room
+pub stepped : {k : Kept} {change : Record → Record} {events : ℕ} {old new : Stored} {r : Record}
+    → IsKept k → record_of k ≡ r → Performs change events old new
+    → old.history ≡ k.history → old.pieces ≡ k.pieces → old.buffer ≡ k.buffer
+    → old.frozen_count ≡ k.frozen_count → k.places ≤ old.places
+    → length old.history + events + k.open_count ≤ old.places
+    → IsKept (with_views new k.begun_count k.open_count)
+    × (record_of (with_views new k.begun_count k.open_count) ≡ change r)
+stepped {k} {change} {events} {old} kept is performs history-is pieces-is buffer-is frozen-is more
+    enough =
+    let room = after_room kept _ _ _ history-is buffer-is more in
+    let before : IsKept (with_views old k.begun_count k.open_count) =
+    rw pieces-is (rw frozen-is room) in
+    let after = performs.step k.begun_count k.open_count enough before in
+    (after.0, after.1 ∙ ap change (rw history-is (rw pieces-is (rw buffer-is is))))
+
 -- how many operations there are
 pub journal_length : {k : Kept} → IsKept k
     → length (record_of k).journal ≡ k.frozen_count + length k.buffer
 journal_length {k} kept =
     omega (arith, length-append (operations_of k.pieces) k.buffer, kept.fields.frozen_operations)
-
--- how many operations there are, by the count that was read
-pub count_is : (count : ℕ) (r s : Record) → count ≡ length s.journal → r ≡ s
-    → count ≡ length r.journal
-count_is count r s counted same = counted ∙ ap (λ (x : Record). length x.journal) (sym same)
 
 -- the buffer has room for one more
 pub counted_below : {k : Kept} → IsKept k → length k.buffer < MOST_BUFFERED
@@ -98,7 +116,7 @@ pub accept_one : {k : Kept} → IsKept k
     → (caller seq : ℕ) (operation : Operation)
     (history : List HistoryEvent) (buffer : List Operation) (places : ℕ)
     → history ≡ k.history ++ accept caller seq ∷ [] → buffer ≡ k.buffer ++ operation ∷ []
-    → seq ≡ length (record_of k).journal + 1 → seq ≤ MOST_OPERATIONS
+    → seq ≡ k.frozen_count + length k.buffer + 1 → seq ≤ MOST_OPERATIONS
     → length k.buffer + 1 < MOST_BUFFERED
     → length k.history + 1 + k.open_count ≤ places
     → IsKept (record k { history = history; buffer = buffer; places = places })
@@ -106,10 +124,8 @@ pub accept_one : {k : Kept} → IsKept k
     ≡ after_accept caller operation (record_of k))
 accept_one {k} kept caller seq operation history buffer places history-is buffer-is seq-is most
     not-last enough =
-    let number : seq ≡ k.frozen_count + length k.buffer + 1 =
-    omega (arith, seq-is, journal_length kept) in
-    let room : k.frozen_count + length k.buffer < MOST_OPERATIONS = omega (arith, number, most) in
-    rw history-is (rw buffer-is (rw number (
+    let room : k.frozen_count + length k.buffer < MOST_OPERATIONS = omega (arith, seq-is, most) in
+    rw history-is (rw buffer-is (rw seq-is (
       kept_accept k caller operation places kept room not-last enough,
       sym (after_accept-room k caller operation places kept room not-last enough),
     )))
@@ -120,7 +136,7 @@ pub accept_last : {k : Kept} → IsKept k
     → history ≡ (k.history ++ accept caller seq ∷ []) ++ freeze caller generation from seq ∷ []
     → pieces ≡ k.pieces ++ piece_of generation from seq (k.buffer ++ operation ∷ []) ∷ []
     → buffer ≡ [] → generation ≡ length k.pieces + 1 → from ≡ k.frozen_count + 1
-    → seq ≡ length (record_of k).journal + 1 → seq ≤ MOST_OPERATIONS
+    → seq ≡ k.frozen_count + length k.buffer + 1 → seq ≤ MOST_OPERATIONS
     → length k.buffer + 1 ≡ MOST_BUFFERED
     → length k.history + 2 + k.open_count ≤ places
     → IsKept (record k {
@@ -140,9 +156,7 @@ pub accept_last : {k : Kept} → IsKept k
     ≡ after_accept caller operation (record_of k))
 accept_last {k} kept caller seq generation from operation history pieces buffer places history-is
     pieces-is buffer-is generation-is from-is seq-is most last enough =
-    let number : seq ≡ k.frozen_count + length k.buffer + 1 =
-    omega (arith, seq-is, journal_length kept) in
-    let room : k.frozen_count + length k.buffer < MOST_OPERATIONS = omega (arith, number, most) in
+    let room : k.frozen_count + length k.buffer < MOST_OPERATIONS = omega (arith, seq-is, most) in
     let upto : k.frozen_count + length (k.buffer ++ operation ∷ [])
     ≡ k.frozen_count + length k.buffer + 1 =
     omega (arith, length-append k.buffer (operation ∷ [])) in
@@ -151,7 +165,7 @@ accept_last {k} kept caller seq generation from operation history pieces buffer 
       kept_accept_last k caller operation places kept room enough,
       sym (after_accept-last k caller operation places kept room last enough),
     ) in
-    rw history-is (rw pieces-is (rw buffer-is (rw number (rw generation-is (rw from-is
+    rw history-is (rw pieces-is (rw buffer-is (rw seq-is (rw generation-is (rw from-is
     (rw upto at both))))))
 
 pub freeze_all : {k : Kept} → IsKept k
@@ -160,7 +174,7 @@ pub freeze_all : {k : Kept} → IsKept k
     → history ≡ k.history ++ freeze caller generation from upto ∷ []
     → pieces ≡ k.pieces ++ piece_of generation from upto k.buffer ∷ []
     → buffer ≡ [] → generation ≡ length k.pieces + 1 → from ≡ k.frozen_count + 1
-    → upto ≡ length (record_of k).journal → 0 < length k.buffer
+    → upto ≡ k.frozen_count + length k.buffer → 0 < length k.buffer
     → length k.history + 1 + k.open_count ≤ places
     → IsKept (record k {
       history = history;
@@ -179,9 +193,7 @@ pub freeze_all : {k : Kept} → IsKept k
     ≡ after_freeze caller (record_of k))
 freeze_all {k} kept caller generation from upto history pieces buffer places history-is pieces-is
     buffer-is generation-is from-is upto-is some enough =
-    let last : upto ≡ k.frozen_count + length k.buffer =
-    omega (arith, upto-is, journal_length kept) in
-    rw history-is (rw pieces-is (rw buffer-is (rw last (rw generation-is (rw from-is (
+    rw history-is (rw pieces-is (rw buffer-is (rw upto-is (rw generation-is (rw from-is (
       kept_freeze k caller places (are_legal (record_of k) kept.legal) kept.fields some enough,
       sym (after_freeze-some k caller places kept.legal.numbered kept.fields some),
     ))))))

@@ -2,17 +2,18 @@
 use Rattle.std.proofs.Common.{◌≡◌, ℕ, zero, suc, ◌+◌, ◌<◌, ◌≤◌, ◌⊎◌, inl, inr, Bool, true, false}
 use Rattle.std.proofs.Common.{not, nat_eq, ◌&&◌, ◌||◌, None, List, [], ◌∷◌, ◌++◌, length, refl, sym}
 use Rattle.std.proofs.Common.{◌∙◌, ap, arith}
-use Rattle.std.specs.Prelude.{filter, All, Contains, slice_index_or}
+use Rattle.std.specs.Prelude.{if◌then◌else◌, filter, All, Contains, slice_index_or}
 use Rattle.std.specs.List.{filter_map}
 use Rattle.std.proofs.lemmas.List.Elements.{filter_map-append, filter-append, filter_agree}
 use Rattle.std.proofs.lemmas.List.Elements.{All-weaker, All-nil, All-cons, All-head, All-tail}
 use Rattle.std.proofs.lemmas.List.Elements.{All-contains}
 use Rattle.std.proofs.lemmas.List.Folds.{list_any-append, list_any_none}
-use Rattle.index_core.specs.Histories.{HistoryEvent, view_end, View, is_among, begun_view}
+use Rattle.index_core.specs.Histories.{HistoryEvent, freeze, view_end, Record, View, is_among}
+use Rattle.index_core.specs.Histories.{accepted, frozen, buffered, next_generation, begun_view}
 use Rattle.index_core.specs.Histories.{ended_view, begun_views, open_views}
 use Rattle.index_core.specs.Representation.{AreViewsFrom}
 use Rattle.index_core.specs.OpenViews.{without}
-use Rattle.index_core.specs.Calls.{beginning}
+use Rattle.index_core.specs.Calls.{with_event, after_freeze, beginning}
 use Rattle.index_core.proofs.HistoryLemmas.{skips}
 
 -- a number over all numbers of a list isn't among them
@@ -28,6 +29,18 @@ pub open_views-skip : (history : List HistoryEvent) (event : HistoryEvent)
     → open_views (history ++ event ∷ []) ≡ open_views history
 open_views-skip history event no-begin no-end =
     rw (skips ended_view history event no-end) (rw (skips begun_view history event no-begin) refl)
+
+-- a freeze opens no view, and ends none
+pub open_views-after_freeze : (caller : ℕ) (r : Record)
+    → open_views (after_freeze caller r).history ≡ open_views r.history
+open_views-after_freeze caller r =
+    let event = freeze caller (next_generation r.history) (frozen r.history + 1)
+    (accepted r.history) in
+    elim (nat_eq (buffered r.history) 0) as (λ none.
+    open_views (if none then r else with_event r event).history ≡ open_views r.history) [
+      | true ↦ refl
+      | false ↦ open_views-skip r.history event refl refl
+    ]
 
 pub open_views-begin : (history : List HistoryEvent) (v : View)
     → is_among v.view (filter_map ended_view history) ≡ false

@@ -1,12 +1,17 @@
 -- How the machine keeps its record in its fields. No public clause cites it.
 use Rattle.std.specs.Prelude.{◌≡◌, ◌≤◌, ⊤, ℕ, ◌+◌, Option, Some, None, List, [], ◌∷◌, ◌++◌, length}
-use Rattle.std.specs.Prelude.{map, All}
+use Rattle.std.specs.Prelude.{map, option_map, All}
+use Rattle.std.specs.declared.alloc.Global.{Global}
+use Rattle.std.specs.declared.sync.Arc.{Arc}
+use Rattle.std.specs.declared.vec.Vec.{Vec}
+use Rattle.std.specs.Vec.{vec_capacity}
 use Rattle.std.specs.List.{filter_map}
 use Rattle.sg_paths.specs.declared.op.Op.{Op}
 use Rattle.sg_paths.specs.Operations.{Operation, PlainBatch, operation_of}
 use Rattle.index_core.specs.declared.limits.TheConstants.{MOST_OPERATIONS, MOST_OPEN_VIEWS}
-use Rattle.index_core.specs.Histories.{HistoryEvent, Record, View, frozen, drawn, begun_views}
-use Rattle.index_core.specs.Histories.{open_views, begun_merges, ended_view}
+use Rattle.index_core.specs.declared.event.Event.{Event}
+use Rattle.index_core.specs.Histories.{HistoryEvent, event_of, Record, View, frozen, drawn}
+use Rattle.index_core.specs.Histories.{begun_views, open_views, begun_merges, ended_view}
 use Rattle.index_core.specs.LegalHistories.{IsLegal}
 use Rattle.index_core.specs.OpenViews.{PlainPiece, operations_of, AreNumberedFrom, frozen_pieces}
 
@@ -29,6 +34,37 @@ pub record Kept : Type 0 where
   pub begun_count : ℕ
   pub open_count : ℕ
   pub places : ℕ
+
+-- the fields but those that count views
+pub record Stored : Type 0 where
+  pub history : List HistoryEvent
+  pub pieces : List PlainPiece
+  pub buffer : List Operation
+  pub frozen_count : ℕ
+  pub places : ℕ
+
+-- these fields, as they stand in the machine
+abbrev pub stored : Vec Event Global → Vec PlainPiece Global → Option (Arc PlainBatch Global)
+    → Vec Op Global → ℕ → Stored
+stored events pieces unshared buffered frozen = record {
+  history = map event_of events.items;
+  pieces = pieces.items;
+  buffer = buffer_of (option_map (λ b. b.value) unshared) buffered.items;
+  frozen_count = frozen;
+  places = vec_capacity events;
+}
+
+-- all fields, where so many views were begun and are open
+abbrev pub with_views : Stored → ℕ → ℕ → Kept
+with_views s begun opened = record {
+  history = s.history;
+  pieces = s.pieces;
+  buffer = s.buffer;
+  frozen_count = s.frozen_count;
+  begun_count = begun;
+  open_count = opened;
+  places = s.places;
+}
 
 -- the record that they keep
 abbrev pub record_of : Kept → Record
@@ -63,3 +99,11 @@ pub record AreFields (k : Kept) : Type 0 where
 pub record IsKept (k : Kept) : Type 0 where
   pub legal : IsLegal (record_of k)
   pub fields : AreFields k
+
+-- a step of the fields that does this to their record, whatever views there are, where so many
+-- events fit beside those that open views have reserved
+pub record Performs (change : Record → Record) (events : ℕ) (old new : Stored) : Type 0 where
+  pub step : (begun opened : ℕ) → length old.history + events + opened ≤ old.places
+      → IsKept (with_views old begun opened)
+      → IsKept (with_views new begun opened)
+      × (record_of (with_views new begun opened) ≡ change (record_of (with_views old begun opened)))

@@ -9,6 +9,7 @@ mod machine;
 mod parts;
 mod refusal;
 mod sharing;
+mod steps;
 
 pub use event::Event;
 pub use limits::{

@@ -11,11 +11,12 @@ ghost use Rattle.index_core.specs.Calls.{RefusesOperation, RefusesView};
 ghost use Rattle.index_core.specs.OpenViews.{view_of, without, HoldsFirst};
 
 use crate::event::Event;
-use crate::freezing::{freeze_shared, freeze_with, make_room};
-use crate::limits::{MOST_BUFFERED, MOST_OPEN_VIEWS, MOST_OPERATIONS};
+use crate::freezing::make_room;
+use crate::limits::{MOST_OPEN_VIEWS, MOST_OPERATIONS};
 use crate::parts::{Freed, Piece, ViewParts};
 use crate::refusal::{Refused, ViewError, Why};
-use crate::sharing::{begin, shares_of, with_piece};
+use crate::sharing::begin;
+use crate::steps::{buffer_or_freeze, freeze_buffered, share_all};
 use sg_base::List;
 use sg_paths::{Batch, Op};
 use std::alloc::{AllocError, Global};
@@ -139,44 +140,20 @@ impl Core {
             &mut self.unshared,
             places,
         ) else {
-            return Err(Refused {
-                op,
-                why: Why::Memory,
-            });
+            return Err(Refused::out_of_memory(op));
         };
-        let seq = count + 1;
-        if self.buffered.len() + 1 < MOST_BUFFERED {
-            self.events.push_reserved(Event::Accept { caller, seq });
-            self.buffered.push_reserved(op);
-            return Ok(seq);
-        }
-        let generation = self.pieces.len() as u32 + 1;
-        let from = self.frozen + 1;
-        match freeze_with(
+        if let Err(op) = buffer_or_freeze(
             self.alloc,
+            &mut self.events,
             &mut self.pieces,
             &mut self.buffered,
+            &mut self.frozen,
+            caller,
             op,
-            generation,
-            from,
-            seq,
         ) {
-            Ok(()) => {
-                self.events.push_reserved(Event::Accept { caller, seq });
-                self.events.push_reserved(Event::Seal {
-                    caller,
-                    generation,
-                    from,
-                    upto: seq,
-                });
-                self.frozen = seq;
-                Ok(seq)
-            }
-            Err(op) => Err(Refused {
-                op,
-                why: Why::Memory,
-            }),
+            return Err(Refused::out_of_memory(op));
         }
+        Ok(count + 1)
     }
 
     /// Freezes what is buffered, and answers its generation; `None` where nothing is.
@@ -186,8 +163,7 @@ impl Core {
         ensures err { OnErr result (self.new ≡ self.old) }
         ensures legal { IsLegal self.new }
     {
-        let upto = self.accepted();
-        if upto == self.frozen {
+        if self.accepted() == self.frozen {
             return Ok(None);
         }
         // A place for the freeze, beside those that open views have reserved.
@@ -198,25 +174,16 @@ impl Core {
             &mut self.unshared,
             places,
         )?;
-        let generation = self.pieces.len() as u32 + 1;
-        let from = self.frozen + 1;
-        let _ = freeze_shared(
+        let piece = freeze_buffered(
             self.alloc,
+            &mut self.events,
             &mut self.pieces,
             &mut self.buffered,
             &mut self.unshared,
-            generation,
-            from,
-            upto,
-        )?;
-        self.events.push_reserved(Event::Seal {
+            &mut self.frozen,
             caller,
-            generation,
-            from,
-            upto,
-        });
-        self.frozen = upto;
-        Ok(Some(generation))
+        )?;
+        Ok(Some(piece.generation))
     }
 
     /// Freezes what is buffered, and begins a view of all operations: one shared owner a piece.
@@ -245,43 +212,18 @@ impl Core {
             &mut self.unshared,
             places,
         )?;
-        let shares = shares_of(self.alloc, self.pieces.as_slice())?;
-        let view = self.begun + 1;
-        if self.buffered.is_empty() {
-            let parts = begin(&mut self.events, caller, view, self.frozen, shares);
-            self.begun = view;
-            self.opened += 1;
-            return Ok(parts);
-        }
-        let generation = self.pieces.len() as u32 + 1;
-        let from = self.frozen + 1;
-        let upto = self.frozen + self.buffered.len() as u64;
-        let piece = freeze_shared(
+        let shares = share_all(
             self.alloc,
+            &mut self.events,
             &mut self.pieces,
             &mut self.buffered,
             &mut self.unshared,
-            generation,
-            from,
-            upto,
+            &mut self.frozen,
+            caller,
         )?;
-        self.events.push_reserved(Event::Seal {
-            caller,
-            generation,
-            from,
-            upto,
-        });
-        let parts = begin(
-            &mut self.events,
-            caller,
-            view,
-            upto,
-            with_piece(shares, piece),
-        );
-        self.frozen = upto;
-        self.begun = view;
+        self.begun += 1;
         self.opened += 1;
-        Ok(parts)
+        Ok(begin(&mut self.events, caller, self.begun, self.frozen, shares))
     }
 
     /// Ends a view, and answers the generations that nothing references any more. Takes no memory:

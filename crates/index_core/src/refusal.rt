@@ -14,6 +14,17 @@ pub struct Refused {
     pub why: Why,
 }
 
+impl Refused {
+    pub(crate) fn out_of_memory(op: Op) -> Refused
+        ensures { result ≡ record { op = op; why = Why.Memory } }
+    {
+        Refused {
+            op,
+            why: Why::Memory,
+        }
+    }
+}
+
 /// Why an operation isn't accepted.
 #[derive(Clone, Copy, Debug, PartialEq, Eq)]
 pub enum Why {

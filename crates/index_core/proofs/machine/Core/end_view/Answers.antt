@@ -41,7 +41,7 @@ history_after : (c : goal.After-of-2)
 history_after c =
     let number : c.parts.inside.view ≡ c.args.parts.view = ap (λ p. p.view) c.parts.view_is in
     let released : c.of.result.items ≡ [] = c.of.ensures.items ∙ c.new.ensures.items in
-    mapped_one _ _ _ _ refl c.push_reserved.ensures.items
+    mapped_one _ _ _ c.push_reserved.ensures.items
     ∙ ap (λ (event : HistoryEvent). map event_of c.self.inside.events.items ++ event ∷ [])
     (ap (λ (n : ℕ). view_end c.args.caller n c.of.result.items) number
     ∙ ap (λ (gs : List ℕ). view_end c.args.caller c.args.parts.view gs) released)
