@@ -290,13 +290,6 @@ pub buffered_is : (k : Kept) → length (record_of k).journal ≡ accepted k.his
 buffered_is k numbered fields =
     omega (arith, counted k numbered fields, fields.frozen_upto_last)
 
--- with nothing buffered nothing is frozen
-pub after_freeze-none : (k : Kept) (caller : ℕ) → IsKept k → length k.buffer ≡ 0
-    → after_freeze caller (record_of k) ≡ record_of k
-after_freeze-none k caller kept none =
-    let count : buffered k.history ≡ 0 = buffered_is k kept.legal.numbered kept.fields ∙ none in
-    rw count refl
-
 -- the definition's batch is that one
 frozen_is : (k : Kept) (caller places : ℕ)
     → length (record_of k).journal ≡ accepted k.history → AreFields k

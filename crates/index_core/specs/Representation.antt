@@ -1,4 +1,5 @@
--- How the machine keeps its record in its fields. No public clause cites it.
+-- How the machine keeps its record in its fields. No public clause cites it. Source: this project's
+-- own.
 use Rattle.std.specs.Prelude.{◌≡◌, ◌≤◌, ⊤, ℕ, ◌+◌, Option, Some, None, List, [], ◌∷◌, ◌++◌, length}
 use Rattle.std.specs.Prelude.{map, option_map, All}
 use Rattle.std.specs.declared.alloc.Global.{Global}

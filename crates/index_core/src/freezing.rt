@@ -3,7 +3,7 @@ ghost use Rattle.std.specs.Prelude.{◌≡◌, ◌<◌, ◌≤◌, ◌+◌, [], 
 ghost use Rattle.std.specs.Prelude.{OnOk, OnErr, length, map, option_map, vec_len};
 ghost use Rattle.std.specs.Vec.{vec_capacity};
 ghost use Rattle.sg_paths.specs.Operations.{operation_of};
-ghost use Rattle.index_core.specs.OpenViews.{PlainPiece, piece_of};
+ghost use Rattle.index_core.specs.OpenViews.{piece_of};
 ghost use Rattle.index_core.specs.Representation.{buffer_of};
 
 use crate::event::Event;

@@ -1,7 +1,6 @@
 //! The core.
-ghost use Rattle.std.specs.Prelude.{◌≡◌, ◌≢◌, ◌<◌, ◌≤◌, ◌+◌, ◌==◌, [], ◌∷◌, ◌++◌, Option, Some};
-ghost use Rattle.std.specs.Prelude.{None, IsSome, IfOk, IfErr, OnOk, OnErr, length, map, filter};
-ghost use Rattle.std.specs.Prelude.{not, option_map, Contains};
+ghost use Rattle.std.specs.Prelude.{◌≡◌, ◌<◌, ◌≤◌, ◌+◌, [], ◌∷◌, ◌++◌, IsSome, IfOk, IfErr};
+ghost use Rattle.std.specs.Prelude.{OnOk, OnErr, length, map, Contains};
 ghost use Rattle.sg_paths.specs.Operations.{operation_of};
 ghost use Rattle.index_core.specs.Histories.{event_of, accepted, open_views};
 ghost use Rattle.index_core.specs.LegalHistories.{IsLegal};
@@ -117,12 +116,17 @@ impl Core {
     /// Appends an accept, and a freeze where the buffer is then full; answers the number of the
     /// operation. The errors in order: `Full`, `Memory`.
     pub fn accept(&mut self, caller: u32, op: Op) -> Result<u64, Refused>
+        // What an Ok answers and appends, and where it comes.
         ensures number { IfOk result (λ seq. seq ≡ accepted self.old.history + 1) }
         ensures ok { OnOk result (self.new ≡ after_accept caller (operation_of op) self.old) }
         ensures room { OnOk result (accepted self.old.history < MOST_OPERATIONS) }
+
+        // Why it is refused, and what that leaves.
         ensures refused { IfErr result (λ r. RefusesOperation self.old r.why) }
         ensures returned { IfErr result (λ r. operation_of r.op ≡ operation_of op) }
         ensures err { OnErr result (self.new ≡ self.old) }
+
+        // After both.
         ensures legal { IsLegal self.new }
     {
         let count = self.accepted();
@@ -189,16 +193,23 @@ impl Core {
     /// Freezes what is buffered, and begins a view of all operations: one shared owner a piece.
     /// The errors in order: `TooMany`, `Memory`.
     pub fn begin_view(&mut self, caller: u32) -> Result<ViewParts, ViewError>
+        // The view.
         ensures view { IfOk result (λ p. view_of caller p ≡ begun_by caller self.old) }
         ensures held { IfOk result (HoldsFirst self.new) }
+        ensures begun { IfOk result (λ p.
+            Contains (open_views self.new.history) (view_of caller p)) }
+
+        // What an Ok appends, and where it comes.
         ensures ok { OnOk result (self.new ≡ after_begin caller self.old) }
         ensures opened { IfOk result (λ p. open_views self.new.history
             ≡ open_views self.old.history ++ view_of caller p ∷ []) }
-        ensures begun { IfOk result (λ p.
-            Contains (open_views self.new.history) (view_of caller p)) }
         ensures room { OnOk result (length (open_views self.old.history) < MOST_OPEN_VIEWS) }
+
+        // Why it is refused, and what that leaves.
         ensures refused { IfErr result (RefusesView self.old) }
         ensures err { OnErr result (self.new ≡ self.old) }
+
+        // After both.
         ensures legal { IsLegal self.new }
     {
         if self.opened >= MOST_OPEN_VIEWS {

@@ -1,7 +1,7 @@
 //! Steps of the core on several of its fields, which contracts see as one `Stored`: an error leaves
 //! it. The caller has made room for the events.
 ghost use Rattle.std.specs.Prelude.{◌≡◌, ◌<◌, ◌≤◌, ◌+◌, [], ◌∷◌, ◌++◌, None, IsSome, IfOk, IfErr};
-ghost use Rattle.std.specs.Prelude.{OnOk, OnErr, length, map, option_map, vec_len};
+ghost use Rattle.std.specs.Prelude.{OnOk, OnErr, length, map, vec_len};
 ghost use Rattle.std.specs.Vec.{vec_capacity};
 ghost use Rattle.sg_paths.specs.Operations.{operation_of};
 ghost use Rattle.index_core.specs.Calls.{after_accept, after_freeze};

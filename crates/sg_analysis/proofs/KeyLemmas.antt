@@ -1,11 +1,8 @@
 -- The bytes of a key: tokens of a text without a reserved byte have none that a key may not have.
-use Rattle.std.proofs.Common.{◌≡◌, ◌+◌, ℕ, Bool, true, false, ◌&&◌, cond, nat_lt, Option, Some}
+use Rattle.std.proofs.Common.{◌≡◌, ◌+◌, ℕ, Bool, true, false, cond, Some}
 use Rattle.std.proofs.Common.{None}
-use Rattle.std.proofs.Common.{List, [], ◌∷◌, ◌++◌, length, chars, encode_utf8_all}
-use Rattle.std.proofs.Common.{refl, sym, ◌∙◌, subst, arith}
-use Rattle.std.specs.Prelude.{nat_le, slice_index}
-use Rattle.std.specs.Bool.{◌==◌}
-use Rattle.std.specs.Option.{option_map_or}
+use Rattle.std.proofs.Common.{List, [], ◌∷◌, ◌++◌, chars, encode_utf8_all}
+use Rattle.std.proofs.Common.{refl, sym, ◌∙◌, arith}
 use Rattle.std.specs.Char.{is_whitespace, encode_utf8}
 use Rattle.std.specs.List.{position_from, list_all, filter, flat_map, onto_first}
 use Rattle.std.proofs.lemmas.Bool.{and_from, and_parts}
@@ -13,14 +10,10 @@ use Rattle.std.proofs.lemmas.Bool.Decides.{nat_tests}
 use Rattle.std.specs.Str.{IsUtf8}
 use Rattle.std.proofs.lemmas.Str.{encodes-chars}
 use Rattle.std.proofs.lemmas.List.Folds.{list_all-append}
-use Rattle.sg_base.specs.Counts.{saturated}
-use Rattle.sg_base.specs.Keys.{is_key, is_key_byte}
+use Rattle.sg_base.specs.Keys.{is_key_byte}
 use Rattle.sg_base.specs.ReservedBytes.{is_reserved}
-use Rattle.sg_base.specs.declared.limits.TheConstants.{MOST_KEY_BYTES}
-use Rattle.sg_analysis.specs.declared.analyzer.Analyzer.{Analyzer}
-use Rattle.sg_analysis.specs.Analysis.{folded, split_at_white_space, is_filled, tokens, separator}
-use Rattle.sg_analysis.specs.Analysis.{joined, reserved, empty, too_long, key, analysis_of_joined}
-use Rattle.sg_analysis.specs.Analysis.{analysis_of_tokens, analysis_of}
+use Rattle.sg_analysis.specs.Analysis.{split_at_white_space, is_filled, tokens, separator}
+use Rattle.sg_analysis.specs.Analysis.{joined}
 
 -- whether each byte may stand in a key
 abbrev has_key_bytes : List ℕ → Bool
@@ -125,36 +118,3 @@ pub joined_text-key_bytes : (separators : Bool) (text : List ℕ) → IsUtf8 tex
     → list_all is_key_byte (joined separators (tokens (chars text))) ≡ true
 joined_text-key_bytes separators text utf8 none =
     joined_tokens-key_bytes separators (chars text) (rw (encodes-chars text utf8) none)
-
-is_key-at_most : (long : Bool) (bytes k : List ℕ) (n : ℕ)
-    → nat_lt MOST_KEY_BYTES (length bytes) ≡ long → has_key_bytes bytes ≡ true
-    → cond long (too_long n) (key bytes) ≡ key k → is_key k ≡ true
-is_key-at_most true bytes k n is all same = cc
-is_key-at_most false bytes k n is all same =
-    let bytes_are : bytes ≡ k = cc in
-    let fits : nat_le (length bytes) MOST_KEY_BYTES ≡ true = grind (arith, nat_tests) in
-    subst (λ (bs : List ℕ). is_key bs ≡ true) bytes_are (and_from _ _ fits all)
-
-is_key-joined : (none : Bool) (bytes k : List ℕ) → has_key_bytes bytes ≡ true
-    → cond none empty (analysis_of_joined bytes) ≡ key k → is_key k ≡ true
-is_key-joined true bytes k all same = cc
-is_key-joined false bytes k all same =
-    let long = nat_lt MOST_KEY_BYTES (length bytes) in
-    is_key-at_most long bytes k (saturated (length bytes)) refl all same
-
-is_key-by_first : (first : Option ℕ) (separators : Bool) (cs : List ℕ) (cut : Bool) (k : List ℕ)
-    → position_from is_reserved 0 (encode_utf8_all cs) ≡ first
-    → option_map_or (λ at. reserved (slice_index (encode_utf8_all cs) at) (saturated at)) first
-    (analysis_of_tokens separators (tokens cs) cut) ≡ key k
-    → is_key k ≡ true
-is_key-by_first (Some at) separators cs cut k is same = cc
-is_key-by_first None separators cs cut k is same =
-    let all = joined_tokens-key_bytes separators cs is in
-    is_key-joined (cut && length (tokens cs) == 0) (joined separators (tokens cs)) k all same
-
--- what the analysis calls a key is one
-pub is_key-analysis_of : (analyzer : Analyzer) (text : List ℕ) (cut : Bool) (k : List ℕ)
-    → analysis_of analyzer text cut ≡ key k → is_key k ≡ true
-is_key-analysis_of analyzer text cut k same =
-    let first = position_from is_reserved 0 (encode_utf8_all (folded text cut)) in
-    is_key-by_first first analyzer.separators (folded text cut) cut k refl same

@@ -96,10 +96,6 @@ module _ {X : Type 0} (R : X → X → Ordering) (total : IsTotalOrder R)
   sooner-assoc (Some x) (Some y) (Some z) =
       assoc_at x y z (is_lt (R y x)) (is_lt (R z y)) refl refl
 
-  sooner-none : (a : Option X) → sooner R a None ≡ a
-  sooner-none None = refl
-  sooner-none (Some x) = refl
-
   -- ---- of a list
 
   get_at : (b : Bool) (x y : X) (xs ys : List X)

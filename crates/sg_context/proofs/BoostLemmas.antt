@@ -1,21 +1,17 @@
 -- Which boosts count for a context, and the limits of the greatest.
-use Rattle.std.proofs.Common.{◌≡◌, ◌≢◌, ℕ, ◌≤◌, ◌↔◌, ◌==◌, Bool, true, false, max, List, [], ◌∷◌}
-use Rattle.std.proofs.Common.{length, filter, refl, sym, ◌∙◌, lit≤, arith}
-use Rattle.std.specs.Prelude.{All, Contains, IsNone, IfSome, IsSomeAnd}
+use Rattle.std.proofs.Common.{◌≡◌, ◌≢◌, ℕ, ◌↔◌, ◌==◌, Bool, true, false, max, List, [], ◌∷◌}
+use Rattle.std.proofs.Common.{length, filter, refl, sym, lit≤}
+use Rattle.std.specs.Prelude.{All, IsNone, IfSome}
 use Rattle.std.specs.List.{reduce}
-use Rattle.std.proofs.lemmas.List.Elements.{All-nil, All-cons, All-head, All-tail, All-contains}
-use Rattle.std.proofs.lemmas.List.Elements.{All-map, All-filter, All-weaker, Contains-append_right}
+use Rattle.std.proofs.lemmas.List.Elements.{All-nil, All-cons, All-head, All-tail}
+use Rattle.std.proofs.lemmas.List.Elements.{All-map, All-filter}
 use Rattle.sg_context.specs.Boosts.{PlainQueryContext, IsBoost, matches, matching_boosts, boosts}
 use Rattle.sg_context.specs.Boosts.{boost_of, IsGreatest}
-use Rattle.sg_context.proofs.GreatestLemmas.{reduce-max, All-reduce_max, at_most-reduce_max}
+use Rattle.sg_context.proofs.GreatestLemmas.{reduce-max, All-reduce_max}
 
 -- a query context that doesn't match
 abbrev Misses : List ℕ → PlainQueryContext → Type 0
 Misses context q = matches context q ≡ false
-
--- one whose boost is among the numbers if it matches
-abbrev CountsAmong : List ℕ → List ℕ → PlainQueryContext → Type 0
-CountsAmong numbers context q = matches context q ≡ true → Contains numbers q.boost
 
 -- without a boost the first doesn't match, nor do the others
 none_first : (q : PlainQueryContext) (qs : List PlainQueryContext) (context : List ℕ) (b : Bool)
@@ -68,42 +64,3 @@ boost_of-IsBoost (q ∷ qs) context all =
     All-reduce_max IsBoost (matching_boosts (q ∷ qs) context)
     (All-map IsBoost (λ x. x.boost) (filter (matches context) (q ∷ qs))
     (All-filter (matches context) (λ x. IsBoost x.boost) (q ∷ qs) all))
-
--- what counts still does behind one more number
-counts_behind : (n : ℕ) (numbers : List ℕ) (context : List ℕ) (qs : List PlainQueryContext)
-    → All (CountsAmong numbers context) qs → All (CountsAmong (n ∷ numbers) context) qs
-counts_behind n numbers context qs =
-    All-weaker (CountsAmong numbers context) (CountsAmong (n ∷ numbers) context)
-    (λ x counts is. Contains-append_right (n ∷ []) numbers x.boost (counts is)) qs
-
--- with the others, the first counts too
-counts_first : (q : PlainQueryContext) (qs : List PlainQueryContext) (context : List ℕ) (b : Bool)
-    → matches context q ≡ b → All (CountsAmong (matching_boosts qs context) context) qs
-    → All (CountsAmong (matching_boosts (q ∷ qs) context) context) (q ∷ qs)
-counts_first q qs context true e later =
-    let others = matching_boosts qs context in
-    rw e (All-cons (CountsAmong (q.boost ∷ others) context) q qs
-    (λ _. (0, omega arith, refl))
-    (counts_behind q.boost others context qs later))
-counts_first q qs context false e later =
-    rw e (All-cons (CountsAmong (matching_boosts qs context) context) q qs
-    (λ is. absurd (let no : false ≡ true = sym e ∙ is in cc))
-    later)
-
--- all that match count
-all_count : (asked : List PlainQueryContext) (context : List ℕ)
-    → All (CountsAmong (matching_boosts asked context) context) asked
-all_count [] context = All-nil (CountsAmong (matching_boosts [] context) context)
-all_count (q ∷ qs) context =
-    counts_first q qs context (matches context q) refl (all_count qs context)
-
--- a context has at least the boost of each query context that matches it
-pub at_most-boost_of : (asked : List PlainQueryContext) (context : List ℕ) (q : PlainQueryContext)
-    → Contains asked q → matches context q ≡ true
-    → IsSomeAnd (boost_of asked context) (λ greatest. q.boost ≤ greatest)
-at_most-boost_of [] context q (k, within, at) is = absurd (omega (arith, within))
-at_most-boost_of (x ∷ xs) context q contains is =
-    let counting = matching_boosts (x ∷ xs) context in
-    at_most-reduce_max counting q.boost
-    (All-contains (CountsAmong counting context) (x ∷ xs) q (all_count
-    (x ∷ xs) context) contains is)

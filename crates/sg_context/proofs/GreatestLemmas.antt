@@ -1,6 +1,6 @@
 -- The greatest of some numbers.
 use Rattle.std.proofs.Common.{◌≡◌, ℕ, ◌<◌, ◌≤◌, max, List, [], ◌∷◌, refl, subst, arith, ⊎_elim}
-use Rattle.std.specs.Prelude.{fold, All, Contains, IfSome, IsSomeAnd}
+use Rattle.std.specs.Prelude.{fold, All, Contains, IfSome}
 use Rattle.std.specs.List.{reduce}
 use Rattle.std.proofs.lemmas.Bool.{cases_lt}
 use Rattle.std.proofs.lemmas.List.Elements.{All-nil, All-cons, All-head, All-tail, All-contains}
@@ -45,10 +45,3 @@ reduce-max (n ∷ ns) =
 pub All-reduce_max : (P : ℕ → Type 0) (ns : List ℕ) → All P ns → IfSome (reduce max ns) P
 All-reduce_max P [] all = tt
 All-reduce_max P (n ∷ ns) all = All-contains P (n ∷ ns) (fold max n ns) all (fold-max_reached n ns)
-
--- with a number there is a greatest, which is at least it
-pub at_most-reduce_max : (ns : List ℕ) (n : ℕ)
-    → Contains ns n → IsSomeAnd (reduce max ns) (λ greatest. n ≤ greatest)
-at_most-reduce_max [] n (k, within, at) = absurd (omega (arith, within))
-at_most-reduce_max (m ∷ ms) n contains =
-    All-contains (λ k. k ≤ fold max m ms) (m ∷ ms) n (fold-max_bounds m ms) contains

@@ -2,9 +2,8 @@
 -- of Elasticsearch's manual; that the greatest boost counts, and 1 where none is asked for, is this
 -- project's own.
 use Rattle.std.specs.Prelude.{ℕ, ◌≤◌, Bool, nat_eq, max, if◌then◌else◌, Option, List, [], ◌∷◌, map}
-use Rattle.std.specs.Prelude.{filter, All, Contains}
+use Rattle.std.specs.Prelude.{filter, All, Contains, bytes_eq}
 use Rattle.std.specs.List.{reduce, starts_with}
-use Rattle.std.specs.Cmp.Lexicographic.{pointwise}
 use Rattle.sg_base.specs.declared.limits.TheConstants.{MOST_BOOST}
 use Rattle.sg_context.specs.declared.limits.TheConstants.{LEAST_BOOST, DEFAULT_BOOST}
 
@@ -22,7 +21,7 @@ pub record IsBoost (boost : ℕ) : Type 0 where
 -- whether a context is the one that is asked for or, with `prefix`, begins with it
 abbrev pub matches : List ℕ → PlainQueryContext → Bool
 matches context q =
-    if q.prefix then starts_with nat_eq context q.context else pointwise nat_eq context q.context
+    if q.prefix then starts_with nat_eq context q.context else bytes_eq context q.context
 
 -- the boosts of those that match a context
 abbrev pub matching_boosts : List PlainQueryContext → List ℕ → List ℕ

@@ -1,5 +1,5 @@
 //! The boost of a context.
-ghost use Rattle.std.specs.Prelude.{◌≡◌, ◌≢◌, ◌↔◌, false, [], max, map, filter, All, IsNone};
+ghost use Rattle.std.specs.Prelude.{◌≡◌, ◌≢◌, ◌↔◌, false, [], max, All, IsNone};
 ghost use Rattle.std.specs.Prelude.{IfSome};
 ghost use Rattle.std.specs.List.{reduce};
 ghost use Rattle.sg_context.specs.Boosts.{IsBoost, IsGreatest, matches, matching_boosts, boosts};

@@ -1,24 +1,14 @@
 -- Bytes in front of others and behind them, as pieces join.
-use Rattle.std.proofs.Common.{◌≡◌, ℕ, ◌+◌, List, [], ◌++◌, take, drop, Option, Some, None}
-use Rattle.std.proofs.Common.{refl, sym, ap, append_assoc, append-nil}
+use Rattle.std.proofs.Common.{◌≡◌, ℕ, ◌+◌, List, ◌++◌, take, drop, Option, Some, None}
+use Rattle.std.proofs.Common.{refl, sym, ap, append_assoc, arith}
 use Rattle.std.proofs.lemmas.List.{take-append-drop, drop-drop}
-use Rattle.sg_edge.specs.Edge.{in_front, behind}
-
--- no bytes in front
-pub in_front-nil : (rest : Option (List ℕ)) → in_front [] rest ≡ rest
-in_front-nil None = refl
-in_front-nil (Some bytes) = refl
+use Rattle.sg_edge.specs.Edge.{in_front, behind, Rose, Stayed}
 
 -- two pieces in front
 pub in_front-append : (xs ys : List ℕ) (rest : Option (List ℕ))
     → in_front (xs ++ ys) rest ≡ in_front xs (in_front ys rest)
 in_front-append xs ys None = refl
 in_front-append xs ys (Some bytes) = ap Some (append_assoc xs ys bytes)
-
--- no bytes behind
-pub behind-nil : (front : Option (List ℕ)) → behind [] front ≡ front
-behind-nil None = refl
-behind-nil (Some bytes) = ap Some (append-nil bytes)
 
 -- two pieces behind
 pub behind-append : (xs ys : List ℕ) (front : Option (List ℕ))
@@ -31,3 +21,7 @@ pub drop-moved : (bytes piece : List ℕ) (at n : ℕ) → take n piece ≡ take
     → drop at bytes ≡ take n piece ++ drop (at + n) bytes
 drop-moved bytes piece at n moved =
     rw (moved, ← drop-drop n at bytes) (sym (take-append-drop n (drop at bytes)))
+
+-- a count that stayed didn't rise
+pub stayed-rose : (before now : ℕ) → Stayed before now → Rose before now → ⊥
+stayed-rose before now stayed rose = omega (arith, stayed.same, stayed.below, rose)

@@ -2,7 +2,8 @@
 use Rattle.std.proofs.Common.{◌≡◌, ℕ, ◌+◌, List, [], ◌∷◌, length, Some, None}
 use Rattle.std.proofs.Common.{cond, true, false, arith}
 use Rattle.std.specs.List.{position_from}
-use Rattle.sg_edge.specs.MemorySources.{is_line_feed, through_line_feed}
+use Rattle.sg_edge.specs.LineFeeds.{is_line_feed}
+use Rattle.sg_edge.specs.MemorySources.{through_line_feed}
 
 -- with a line feed in them, it ends behind that
 pub length-through_line_feed-some : (bytes : List ℕ) (n at : ℕ)

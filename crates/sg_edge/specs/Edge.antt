@@ -33,9 +33,14 @@ greatest_count = 2 ^ 64 - 1
 abbrev pub counted : ℕ → ℕ
 counted n = min (n + 1) greatest_count
 
--- one more was counted in between, as where the count is at its greatest is taken to have been
+-- the count has one more in it; at its greatest it stands still, and is taken as one that rose
 abbrev pub Rose : ℕ → ℕ → Type 0
 Rose before now = now ≡ counted before
+
+-- the count has no more in it, which it tells below its greatest
+pub record Stayed (before now : ℕ) : Type 0 where
+  pub same : now ≡ before
+  pub below : before < greatest_count
 
 -- a take fails only where it met a fault, which is counted once, and an Ok leaves the count
 abbrev pub TakeCause : {T E : Type 0} → ℕ → ℕ → Result T E → Type 0

@@ -1,6 +1,7 @@
 -- A source in memory: what it holds, and what its next take moves. Source: this project's own.
-use Rattle.std.specs.Prelude.{◌≡◌, ◌==◌, ℕ, List, [], ◌∷◌, Bool, take, if◌then◌else◌}
+use Rattle.std.specs.Prelude.{◌≡◌, ℕ, List, [], ◌∷◌, Bool, take, if◌then◌else◌}
 use Rattle.sg_edge.specs.Edge.{counted}
+use Rattle.sg_edge.specs.LineFeeds.{is_line_feed}
 
 -- the bytes that are left, how they are given, which calls fail, and what was counted
 pub record SourceInMemory : Type 0 where
@@ -10,10 +11,6 @@ pub record SourceInMemory : Type 0 where
   pub calls : ℕ
   pub faults : ℕ
   pub ended : Bool
-
--- whether the byte ends a line
-abbrev pub is_line_feed : ℕ → Bool
-is_line_feed byte = byte == 10
 
 -- the bytes through the first line feed, or all of them
 abbrev pub through_line_feed : List ℕ → List ℕ

@@ -3,6 +3,7 @@
 //! object tells them, as one in memory does, and a count of its faults everywhere.
 #![tactic(auto)]
 
+mod line_feeds;
 mod memory_sink;
 mod memory_source;
 mod sink;
@@ -10,6 +11,7 @@ mod source;
 mod std_sink;
 mod std_source;
 
+pub use line_feeds::line_feed_at;
 pub use memory_sink::MemorySink;
 pub use memory_source::MemorySource;
 pub use sink::{PutError, Sink};

@@ -1,5 +1,5 @@
 //! A sink that keeps its bytes in memory.
-ghost use Rattle.std.specs.Prelude.{◌≡◌, ◌≤◌, ◌<◌, ◌↔◌, [], Some};
+ghost use Rattle.std.specs.Prelude.{◌≡◌, ◌≤◌, ◌↔◌, [], Some};
 ghost use Rattle.std.specs.Prelude.{length, take, Contains, IfOk, IsErrOf, OnErr};
 ghost use Rattle.sg_edge.specs.Edge.{counted, behind};
 ghost use Rattle.sg_edge.specs.Puts.{PutCause};

@@ -1,15 +1,12 @@
 //! A source whose bytes stand in memory.
 ghost use Rattle.std.specs.Prelude.{◌≡◌, ◌≤◌, ◌<◌, ◌↔◌, Some, [], false};
-ghost use Rattle.std.specs.Prelude.{length, take, Contains, IfOk, IfSome, IsErr, OnErr};
-ghost use Rattle.std.specs.List.{position_from};
+ghost use Rattle.std.specs.Prelude.{length, take, Contains, IfOk, IsErr, OnErr};
 ghost use Rattle.sg_edge.specs.Edge.{counted, in_front, is_end, EndsHonestly, TakeCause};
-ghost use Rattle.sg_edge.specs.MemorySources.{is_line_feed, through_line_feed, next_bytes};
-ghost use Rattle.sg_edge.specs.MemorySources.{IsAtNextCall};
+ghost use Rattle.sg_edge.specs.MemorySources.{through_line_feed, next_bytes, IsAtNextCall};
 
+use crate::line_feeds::line_feed_at;
 use crate::source::{Failed, Source};
 use std::marker::Model;
-
-const LINE_FEED: u8 = b'\n';
 
 /// A source whose bytes stand in memory, and of which a listed call fails.
 #[derive(Debug, Drop)]
@@ -72,14 +69,6 @@ impl MemorySource {
     {
         &self.bytes.as_slice()[self.at..]
     }
-}
-
-// The offset of the first line feed.
-fn line_feed_at(bytes: &[u8]) -> Option<usize>
-    ensures first { result ≡ position_from is_line_feed 0 bytes.now }
-    ensures within { IfSome result (λ at. at < length bytes.now) }
-{
-    bytes.iter().position(|byte| *byte == LINE_FEED)
 }
 
 // How many bytes stand through the first line feed, or in all.

@@ -1,5 +1,5 @@
 //! Where bytes go to.
-ghost use Rattle.std.specs.Prelude.{◌≡◌, ◌≤◌, ◌<◌, ℕ, List, Option};
+ghost use Rattle.std.specs.Prelude.{◌≡◌, ◌≤◌, ℕ, List, Option};
 ghost use Rattle.std.specs.Prelude.{length, take, IfOk, OnErr};
 ghost use Rattle.sg_edge.specs.Edge.{behind};
 ghost use Rattle.sg_edge.specs.Puts.{PutCause};

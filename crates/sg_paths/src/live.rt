@@ -1,34 +1,21 @@
 //! The live documents of a journal by the plain program, and what deletes and updates reach.
 ghost use Rattle.std.specs.Prelude.{◌≡◌, ◌++◌, map, length, OnOk, IfOk};
-ghost use Rattle.std.specs.Option.{option_copied};
 ghost use Rattle.std.specs.List.{list_any};
-ghost use Rattle.sg_paths.specs.Operations.{operation_of, added_document};
+ghost use Rattle.sg_paths.specs.Operations.{operation_of};
 ghost use Rattle.sg_paths.specs.LiveDocuments.{deletes_id, live_documents, live_of};
 ghost use Rattle.sg_paths.specs.LiveDocuments.{ReachesEarlierDocumentsOnly};
 ghost use Rattle.sg_paths.specs.LiveDocuments.{LeavesItsOwnDocumentAlone};
 
-use crate::document::Document;
 use crate::op::{Numbered, Op};
 use sg_base::Text;
 use std::alloc::{AllocError, Global};
 
-fn document_of(op: &Op) -> Option<&Document>
-    ensures { option_copied result ≡ added_document (operation_of op.now) }
-{
-    match op {
-        Op::Add(document) => Some(document),
-        Op::Update(document) => Some(document),
-        Op::Delete(_) => None,
-    }
-}
-
 fn deletes(op: &Op, id: &Text) -> bool
     ensures { result ≡ deletes_id id.now (operation_of op.now) }
 {
-    match op {
-        Op::Add(_) => false,
-        Op::Update(document) => id.as_str() == document.id.as_str(),
-        Op::Delete(deleted) => id.as_str() == deleted.as_str(),
+    match op.deleted_id() {
+        Some(deleted) => id.as_str() == deleted,
+        None => false,
     }
 }
 
@@ -53,7 +40,7 @@ fn add_if_live(
     ensures { OnOk result (live.new.items ≡ live.old.items
         ++ live_of seq (operation_of op.now) (map operation_of later.now)) }
 {
-    let Some(document) = document_of(op) else {
+    let Some(document) = op.document() else {
         return Ok(());
     };
     if any_deletes(later, &document.id) {

@@ -1,5 +1,7 @@
 //! Operations.
-ghost use Rattle.std.specs.Prelude.{◌≡◌};
+ghost use Rattle.std.specs.Prelude.{◌≡◌, option_map};
+ghost use Rattle.std.specs.Option.{option_copied};
+ghost use Rattle.sg_paths.specs.Operations.{operation_of, added_document, deleted_id};
 
 use crate::document::Document;
 use sg_base::{List, Text};
@@ -13,6 +15,30 @@ pub enum Op {
     Update(Document),
     /// The id.
     Delete(Text),
+}
+
+impl Op {
+    /// The document that it adds, if it adds one.
+    pub fn document(&self) -> Option<&Document>
+        ensures { option_copied result ≡ added_document (operation_of self.now) }
+    {
+        match self {
+            Op::Add(document) => Some(document),
+            Op::Update(document) => Some(document),
+            Op::Delete(_) => None,
+        }
+    }
+
+    /// The id of the documents that it deletes, if it deletes any.
+    pub fn deleted_id(&self) -> Option<&str>
+        ensures { option_map (λ id. id.now) result ≡ deleted_id (operation_of self.now) }
+    {
+        match self {
+            Op::Add(_) => None,
+            Op::Update(document) => Some(document.id.as_str()),
+            Op::Delete(id) => Some(id.as_str()),
+        }
+    }
 }
 
 /// Consecutive operations.

@@ -5,6 +5,7 @@ use Rattle.std.proofs.Common.{length-append}
 use Rattle.std.specs.Option.{IsSomeAnd}
 use Rattle.std.proofs.lemmas.Option.{same_Some}
 use Rattle.sg_edge.specs.Edge.{in_front, NothingLeft}
+use Rattle.sg_edge.proofs.EdgeLemmas.{stayed-rose}
 use Rattle.sg_shell.specs.Inputs.{ReadsToTheEnd}
 use Rattle.sg_shell.specs.Runs.{output_of}
 use Rattle.sg_shell.proofs.RunLemmas.{output_of-session}
@@ -64,16 +65,6 @@ module _ {S K : Type 0} (s : SourceMembers S) (k : SinkMembers K) where
   run_ends-read Memory source source' sink sink' input read ends =
       inr (answers Memory source source' sink sink' input read ends)
 
-  -- writing never ends as a run without a reading does
-  pub write_ends-usage : (status : Status) (output : List ℕ) (sink sink' : K)
-      → WriteEnds k output status sink sink' → status ≢ Usage
-  write_ends-usage Done output sink sink' ends is = cc
-  write_ends-usage Usage output sink sink' ends is = absurd ends
-  write_ends-usage ReadFault output sink sink' ends is = absurd ends
-  write_ends-usage WriteFault output sink sink' ends is = cc
-  write_ends-usage TooLong output sink sink' ends is = absurd ends
-  write_ends-usage Memory output sink sink' ends is = cc
-
   -- a faultless run ends by the length of its input
   pub ends_by_length : (status : Status) (source source' : S) (sink sink' : K)
       → status ≢ Usage → RunEnds s k status source source' sink sink'
@@ -90,9 +81,9 @@ module _ {S K : Type 0} (s : SourceMembers S) (k : SinkMembers K) where
       }
   ends_by_length Usage source source' sink sink' runs ends clean = absurd (runs refl)
   ends_by_length ReadFault source source' sink sink' runs ends clean =
-      absurd (clean.reading ends.0.rose)
+      absurd (stayed-rose _ _ clean.reading ends.0.rose)
   ends_by_length WriteFault source source' sink sink' runs ends clean =
-      absurd (clean.writing ends.written.rose)
+      absurd (stayed-rose _ _ clean.writing ends.written.rose)
   ends_by_length TooLong source source' sink sink' runs ends clean =
       record {
         within = λ within.

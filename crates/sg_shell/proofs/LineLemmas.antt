@@ -6,7 +6,7 @@ use Rattle.std.proofs.Math.Seq.{take-length, drop-length}
 use Rattle.std.specs.List.{position_from}
 use Rattle.std.proofs.lemmas.Option.{same_Some}
 use Rattle.sg_shell.specs.Lines.{SplitText, split_with, split_lines, last_line, lines_of}
-use Rattle.sg_shell.specs.Lines.{is_line_feed}
+use Rattle.sg_edge.specs.LineFeeds.{is_line_feed}
 
 -- a place that is found isn't before the first
 found_from_at : (t : Bool) (bs : List ℕ) (i j : ℕ)

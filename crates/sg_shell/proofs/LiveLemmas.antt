@@ -27,11 +27,6 @@ pub delete_after-change : (operation : Operation) (id other : List ℕ) (seq : �
 delete_after-change operation id other seq before is =
     rw (← is, nat_list_eq_equiv.symm other id) refl
 
--- one that deletes nothing
-pub delete_after-none : (operation : Operation) (other : List ℕ) (seq : ℕ) (before : Option ℕ)
-    → None ≡ deleted_id operation → before ≡ delete_after other seq operation before
-delete_after-none operation other seq before is = rw (← is) refl
-
 pub last_delete-append : (id : List ℕ) (n : ℕ) (xs ys : List Operation) (before : Option ℕ)
     → last_delete id n (xs ++ ys) before
     ≡ last_delete id (n + length xs) ys (last_delete id n xs before)

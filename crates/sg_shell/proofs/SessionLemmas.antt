@@ -138,7 +138,8 @@ follows-cons journal now more e t next later =
           (λ k d h. after_fewer (length journal) (length (journal ++ now)) _ (omega (arith, count))
           (later.after k d h));
       ordered = AllPairs-cons StandsBefore e t
-          (λ k d h. precedes (length (journal ++ now)) e _ within (later.after k d h)) later.ordered;
+          (λ k d h. precedes (length (journal ++ now)) e _ within (later.after k d h))
+          later.ordered;
       numbers =
           filter_map-append numbered_operation (e ∷ []) t
           ∙ (ap (λ ps. ps ++ filter_map numbered_operation t) next.numbers

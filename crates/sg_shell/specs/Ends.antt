@@ -1,7 +1,8 @@
 -- How a run ends. Source: this project's own.
 use Rattle.std.specs.Prelude.{◌≡◌, ◌≤◌, ◌<◌, ◌⊎◌, ℕ, Bool, false, List, [], ◌∷◌, take, length}
 use Rattle.std.specs.Prelude.{Option, codes, bytes_eq, IsSomeAnd}
-use Rattle.sg_edge.specs.Edge.{behind, Rose}
+use Rattle.sg_edge.specs.Edge.{behind, Rose, Stayed}
+use Rattle.sg_shell.specs.Outputs.{StopsInside}
 use Rattle.sg_shell.specs.Inputs.{ReadsToTheEnd, StopsAtFault, StopsTooLong, StopsWithoutMemory}
 use Rattle.sg_shell.specs.Runs.{output_of}
 use Rattle.sg_shell.specs.Sessions.{Session}
@@ -43,9 +44,7 @@ pub record WritesAll {K : Type 0} (k : SinkMembers K) (output : List ℕ) (old n
 -- a put failed after a front of an output, which isn't all of it
 pub record FailsWriting {K : Type 0} (k : SinkMembers K) (output : List ℕ)
     (old new : K) : Type 0 where
-  pub written : ℕ
-  pub within : written < length output
-  pub given : k.given new ≡ behind (take written output) (k.given old)
+  pub front : StopsInside k.given output old new
   pub rose : Rose (k.faults old) (k.faults new)
 
 -- memory ran out after a front of an output
@@ -87,10 +86,10 @@ module _ {S K : Type 0} (s : SourceMembers S) (k : SinkMembers K) where
       (StopsWithoutMemory s.left s.faults source source' × (sink' ≡ sink))
       ⊎ AnswersInput Memory source source' sink sink'
 
-  -- no count of faults rose
+  -- no fault was counted
   pub record IsFaultless (source source' : S) (sink sink' : K) : Type 0 where
-    pub reading : Rose (s.faults source) (s.faults source') → ⊥
-    pub writing : Rose (k.faults sink) (k.faults sink') → ⊥
+    pub reading : Stayed (s.faults source) (s.faults source')
+    pub writing : Stayed (k.faults sink) (k.faults sink')
 
 -- where nothing fails, an input within the limit ends the run as done, and a longer one as too
 -- long; either may run out of memory

@@ -9,8 +9,8 @@ use Rattle.sg_paths.specs.Operations.{Operation, NumberedDocument}
 use Rattle.sg_paths.specs.LiveDocuments.{deletes_id}
 
 -- what a map by ids has at an id
-abbrev pub last_of : {S : Type 0} → HashMap (Bor (List ℕ)) ℕ S → List ℕ → Option ℕ
-last_of m id = get_by (λ k. bytes_eq id k.now) m
+abbrev pub number_at : {S : Type 0} → HashMap (Bor (List ℕ)) ℕ S → List ℕ → Option ℕ
+number_at m id = get_by (λ k. bytes_eq id k.now) m
 
 -- the number of the operation where it deletes the id, else what was there before
 abbrev pub delete_after : List ℕ → ℕ → Operation → Option ℕ → Option ℕ

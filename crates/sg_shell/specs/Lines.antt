@@ -1,9 +1,6 @@
 -- The lines of an input. Source: this project's own.
-use Rattle.std.specs.Prelude.{ℕ, Bool, true, false, ◌==◌, List, [], ◌∷◌, ◌++◌}
-
--- the byte that ends a line
-abbrev pub is_line_feed : ℕ → Bool
-is_line_feed b = b == 10
+use Rattle.std.specs.Prelude.{ℕ, Bool, true, false, List, [], ◌∷◌, ◌++◌}
+use Rattle.sg_edge.specs.LineFeeds.{is_line_feed}
 
 -- the lines that end with a line feed, and what stands after the last of them
 pub record SplitText : Type 0 where

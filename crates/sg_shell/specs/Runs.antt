@@ -84,11 +84,6 @@ transcript_from r (line ∷ lines) =
     said line (step line.number line.command r).reply
     ++ transcript_from (step line.number line.command r).after lines
 
--- the record after lines in order
-abbrev pub record_after : Record → List Line → Record
-record_after r [] = r
-record_after r (line ∷ lines) = record_after (step line.number line.command r).after lines
-
 -- the program's analyzer keeps separators
 abbrev pub standard : Analyzer
 standard = record { separators = true }

@@ -1,5 +1,5 @@
 //! The rows that a query prints.
-ghost use Rattle.std.specs.Prelude.{◌≡◌, IfOk, map, take};
+ghost use Rattle.std.specs.Prelude.{◌≡◌, IfOk};
 ghost use Rattle.std.specs.List.Sorted.{IsNonDecreasingBy};
 ghost use Rattle.sg_shell.specs.Answers.{text_at, row_of, rows_of};
 

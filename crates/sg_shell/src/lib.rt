@@ -25,4 +25,6 @@ pub use writing::write_all;
 #[cfg(test)]
 mod input_tests;
 #[cfg(test)]
+mod live_tests;
+#[cfg(test)]
 mod tests;

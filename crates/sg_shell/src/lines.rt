@@ -1,20 +1,14 @@
 //! The lines of an input.
 ghost use Rattle.std.specs.Prelude.{◌≡◌, ◌<◌, ◌∷◌, [], IfSome, MatchOption, length};
-ghost use Rattle.std.specs.List.{position_from};
-ghost use Rattle.sg_shell.specs.Lines.{lines_of, is_line_feed};
+ghost use Rattle.sg_shell.specs.Lines.{lines_of};
+
+use sg_edge::line_feed_at;
 
 /// A line, without its line feed, and what stands after it.
 #[derive(Clone, Copy)]
 pub struct Split<'b> {
     pub line: &'b [u8],
     pub rest: &'b [u8],
-}
-
-fn line_feed_at(bytes: &[u8]) -> Option<usize>
-    ensures first { result ≡ position_from is_line_feed 0 bytes.now }
-    ensures within { IfSome result (λ at. at < length bytes.now) }
-{
-    bytes.iter().position(|byte| *byte == b'\n')
 }
 
 /// The first line, where there is one. A last line without a line feed counts where it isn't empty.

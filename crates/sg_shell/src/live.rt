@@ -1,47 +1,25 @@
 //! The live documents of a view, by a scan over its pieces.
 ghost use Rattle.std.specs.Prelude.{◌≡◌, ◌<◌, ◌+◌, ◌^◌, ◌++◌, ℕ, List, [], ◌∷◌, IfOk, OnOk, None};
-ghost use Rattle.std.specs.Prelude.{length, map, option_map, unwrap_or};
-ghost use Rattle.std.specs.Option.{option_copied};
-ghost use Rattle.sg_paths.specs.Operations.{operation_of, added_document, deleted_id};
-ghost use Rattle.sg_paths.specs.Operations.{documents_from};
+ghost use Rattle.std.specs.Prelude.{length, map, unwrap_or};
+ghost use Rattle.sg_paths.specs.Operations.{operation_of, documents_from};
 ghost use Rattle.sg_paths.specs.LiveDocuments.{live_documents};
 ghost use Rattle.index_core.specs.OpenViews.{operations_of};
-ghost use Rattle.sg_shell.specs.LastDeletes.{last_of, delete_after, last_delete, undeleted};
+ghost use Rattle.sg_shell.specs.LastDeletes.{number_at, delete_after, last_delete, undeleted};
 
 use index_core::Piece;
 use sg_answers::LiveDocument;
-use sg_paths::{Document, Op};
+use sg_paths::Op;
 use std::alloc::{AllocError, Global};
 use std::collections::HashMap;
 
 // By id, the number of the last operation that deletes it.
 type LastDeletes<'p> = HashMap<&'p str, u64>;
 
-fn document_of(op: &Op) -> Option<&Document>
-    ensures { option_copied result ≡ added_document (operation_of op.now) }
-{
-    match op {
-        Op::Add(document) => Some(document),
-        Op::Update(document) => Some(document),
-        Op::Delete(_) => None,
-    }
-}
-
-fn id_deleted_by(op: &Op) -> Option<&str>
-    ensures { option_map (λ id. id.now) result ≡ deleted_id (operation_of op.now) }
-{
-    match op {
-        Op::Add(_) => None,
-        Op::Update(document) => Some(document.id.as_str()),
-        Op::Delete(id) => Some(id.as_str()),
-    }
-}
-
 fn mark<'p>(last: &mut LastDeletes<'p>, op: &'p Op, seq: u64) -> Result<(), AllocError>
-    ensures { OnOk result ((id : List ℕ) → last_of last.new id
-        ≡ delete_after id seq (operation_of op.now) (last_of last.old id)) }
+    ensures { OnOk result ((id : List ℕ) → number_at last.new id
+        ≡ delete_after id seq (operation_of op.now) (number_at last.old id)) }
 {
-    if let Some(id) = id_deleted_by(op) {
+    if let Some(id) = op.deleted_id() {
         last.insert(id, seq)?;
     }
     Ok(())
@@ -49,8 +27,8 @@ fn mark<'p>(last: &mut LastDeletes<'p>, op: &'p Op, seq: u64) -> Result<(), Allo
 
 fn mark_all<'p>(last: &mut LastDeletes<'p>, ops: &'p [Op], from: u64) -> Result<(), AllocError>
     requires { from + length ops.now < 2 ^ 64 }
-    ensures { OnOk result ((id : List ℕ) → last_of last.new id
-        ≡ last_delete id from (map operation_of ops.now) (last_of last.old id)) }
+    ensures { OnOk result ((id : List ℕ) → number_at last.new id
+        ≡ last_delete id from (map operation_of ops.now) (number_at last.old id)) }
 {
     let mut seq = from;
     for op in ops {
@@ -68,8 +46,8 @@ fn mark_piece<'p>(
 ) -> Result<u64, AllocError>
     requires { from + length piece.now.batch.operations < 2 ^ 64 }
     ensures next { IfOk result (λ next. next ≡ from + length piece.now.batch.operations) }
-    ensures marked { OnOk result ((id : List ℕ) → last_of last.new id
-        ≡ last_delete id from piece.now.batch.operations (last_of last.old id)) }
+    ensures marked { OnOk result ((id : List ℕ) → number_at last.new id
+        ≡ last_delete id from piece.now.batch.operations (number_at last.old id)) }
 {
     let ops = piece.batch.ops.items();
     mark_all(last, ops, from)?;
@@ -79,7 +57,7 @@ fn mark_piece<'p>(
 fn last_deletes<'p>(alloc: Global, pieces: &'p [Piece]) -> Result<LastDeletes<'p>, AllocError>
     requires { length (operations_of pieces.now) < 2 ^ 63 }
     ensures { IfOk result (λ last. (id : List ℕ)
-        → last_of last id ≡ last_delete id 1 (operations_of pieces.now) None) }
+        → number_at last id ≡ last_delete id 1 (operations_of pieces.now) None) }
 {
     let mut last = HashMap::new(alloc);
     let mut from = 1u64;
@@ -90,7 +68,7 @@ fn last_deletes<'p>(alloc: Global, pieces: &'p [Piece]) -> Result<LastDeletes<'p
 }
 
 fn deleted_by(last: &LastDeletes<'_>, id: &str) -> u64
-    ensures { result ≡ unwrap_or (last_of last.now id.now) 0 }
+    ensures { result ≡ unwrap_or (number_at last.now id.now) 0 }
 {
     last.get(id).copied().unwrap_or(0)
 }
@@ -102,9 +80,9 @@ fn push_live<'p>(
     seq: u64,
 ) -> Result<(), AllocError>
     ensures { OnOk result (live.new.items ≡ live.old.items
-        ++ undeleted (last_of last.now) (documents_from seq (operation_of op.now ∷ []))) }
+        ++ undeleted (number_at last.now) (documents_from seq (operation_of op.now ∷ []))) }
 {
-    if let Some(document) = document_of(op) {
+    if let Some(document) = op.document() {
         if deleted_by(last, document.id.as_str()) <= seq {
             live.push(LiveDocument { seq, document })?;
         }
@@ -120,7 +98,7 @@ fn push_all_live<'p>(
 ) -> Result<(), AllocError>
     requires { from + length ops.now < 2 ^ 64 }
     ensures { OnOk result (live.new.items ≡ live.old.items
-        ++ undeleted (last_of last.now) (documents_from from (map operation_of ops.now))) }
+        ++ undeleted (number_at last.now) (documents_from from (map operation_of ops.now))) }
 {
     let mut seq = from;
     for op in ops {
@@ -140,7 +118,7 @@ fn push_piece_live<'p>(
     requires { from + length piece.now.batch.operations < 2 ^ 64 }
     ensures next { IfOk result (λ next. next ≡ from + length piece.now.batch.operations) }
     ensures pushed { OnOk result (live.new.items ≡ live.old.items
-        ++ undeleted (last_of last.now) (documents_from from piece.now.batch.operations)) }
+        ++ undeleted (number_at last.now) (documents_from from piece.now.batch.operations)) }
 {
     let ops = piece.batch.ops.items();
     push_all_live(live, last, ops, from)?;

@@ -1,5 +1,5 @@
--- The code's forms, which borrow from a line's value, as plain data, and what the code knows of a
--- form without an error. No public clause cites it. Source: this project's own.
+-- The code's forms, which borrow from a line's value, as plain data, and what the code knows of any
+-- form. No public clause cites it. Source: this project's own.
 use Rattle.std.specs.Prelude.{◌≡◌, true, List, map, Option, option_map, ⊤}
 use Rattle.std.specs.Borrow.{Bor}
 use Rattle.serde_json.specs.View.{view}

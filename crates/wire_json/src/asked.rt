@@ -2,7 +2,6 @@
 ghost use Rattle.std.specs.Prelude.{◌≡◌, ◌≤◌, IfSome, map, option_map};
 ghost use Rattle.std.specs.List.{list_all, list_any};
 ghost use Rattle.serde_json.specs.View.{view};
-ghost use Rattle.sg_base.specs.declared.limits.TheConstants.{MOST_BOOST};
 ghost use Rattle.sg_context.specs.Boosts.{IsBoost};
 ghost use Rattle.sg_context.specs.Queries.{IsRowCount};
 ghost use Rattle.wire_json.specs.Asked.{whole_within, context_asked, prefix_flag, boost_asked};

@@ -5,7 +5,7 @@ ghost use Rattle.sg_paths.specs.declared.limits.TheConstants.{MOST_SUGGESTIONS};
 ghost use Rattle.serde_json.specs.View.{view};
 ghost use Rattle.wire_json.specs.Members.{listed_at};
 ghost use Rattle.wire_json.specs.Suggested.{entries_of};
-ghost use Rattle.wire_json.specs.Forms.{lane_given, change_of, delete_of, suggest_of, form_by};
+ghost use Rattle.wire_json.specs.Forms.{lane_given, change_of, delete_of, suggest_of};
 ghost use Rattle.wire_json.specs.Forms.{form_of, make_a_document};
 ghost use Rattle.wire_json.specs.EntryForms.{plain_entry};
 ghost use Rattle.wire_json.specs.ReadForms.{plain_form, HasItsEntries};

@@ -1,12 +1,11 @@
 //! The suggestions of a line, as they are given.
-ghost use Rattle.std.specs.Prelude.{◌≡◌, ◌≤◌, ◌++◌, ◌∷◌, [], IfOk, IfSome, OnOk, map, option_map};
-ghost use Rattle.std.specs.Prelude.{option_to_list};
-ghost use Rattle.std.specs.Prelude.{option_and_then};
+ghost use Rattle.std.specs.Prelude.{◌≡◌, ◌≤◌, ◌++◌, IfOk, IfSome, OnOk, map, option_map};
+ghost use Rattle.std.specs.Prelude.{option_to_list, option_and_then};
 ghost use Rattle.std.specs.List.{list_all, list_any, filter_map};
 ghost use Rattle.serde_json.specs.View.{view};
 ghost use Rattle.serde_json.specs.Find.{as_str};
 ghost use Rattle.sg_base.specs.declared.limits.TheConstants.{MOST_WEIGHT};
-ghost use Rattle.wire_json.specs.Members.{is_text, listed};
+ghost use Rattle.wire_json.specs.Members.{is_text};
 ghost use Rattle.wire_json.specs.Suggested.{input_of, is_suggestion, texts_of, entry_of};
 ghost use Rattle.wire_json.specs.Suggested.{entries_in, entries_of};
 ghost use Rattle.wire_json.specs.Suggested.{are_digits, number_of_digits, weight_upto};

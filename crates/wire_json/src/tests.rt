@@ -7,15 +7,22 @@ use std::test::Fail;
 
 // Each line with what it asks for, of two workers: the worker; a document with its id, and of each
 // suggestion the text, the key, the weight and the contexts; a query with its key, k and contexts,
-// each with its boost and a star for a prefix.
+// each with its boost and a star for a prefix. What begins with a blank goes on the line above.
 const LINES: &str = r#"   ==> blank
 {"op":"add","id":"a","suggest":" New York"} ==> 0 add a: [ New York] [new^york] 1
-{"op":"add","id":"a","lane":1,"suggest":{"input":["Köln","Cologne"],"weight":"0012","contexts":["de","de",""]}} ==> 1 add a: [Köln] [köln] 12 (de) (de) () [Cologne] [cologne] 12 (de) (de) ()
-{"op":"update","id":"b","suggest":["x",{"input":[]},{"input":"Stra\u00dfe","weight":0,"contexts":"f"}]} ==> 0 update b: [x] [x] 1 [Straße] [strasse] 0 (f)
+{"op":"add","id":"a","lane":1,"suggest":{"input":["Köln","Cologne"],"weight":"0012",
+ "contexts":["de","de",""]}}
+  ==> 1 add a: [Köln] [köln] 12 (de) (de) () [Cologne] [cologne] 12 (de) (de) ()
+{"op":"update","id":"b","suggest":["x",{"input":[]},{"input":"Stra\u00dfe","weight":0,
+ "contexts":"f"}]}
+  ==> 0 update b: [x] [x] 1 [Straße] [strasse] 0 (f)
 {"op":"delete","id":" A","suggest":[],"k":0,"contexts":7} ==> 0 delete  A
 {"op":"suggest","prefix":"New Y "} ==> 0 suggest [new^y] 5
-{"op":"suggest","prefix":"","k":1000,"contexts":["a",{"context":"","boost":2147483647,"prefix":true}],"lane":1} ==> 1 suggest [] 1000 a=1 =2147483647*
-{"op":"suggest","prefix":"x","contexts":{"context":"a","boost":null,"prefix":false}} ==> 0 suggest [x] 5 a=1
+{"op":"suggest","prefix":"","k":1000,"contexts":["a",{"context":"","boost":2147483647,
+ "prefix":true}],"lane":1}
+  ==> 1 suggest [] 1000 a=1 =2147483647*
+{"op":"suggest","prefix":"x","contexts":{"context":"a","boost":null,"prefix":false}}
+  ==> 0 suggest [x] 5 a=1
 [ ==> json
 [1] ==> shape
 {"op":"open","view":"v"} ==> shape
@@ -27,7 +34,9 @@ const LINES: &str = r#"   ==> blank
 {"op":"add","id":"a","suggest":[{"input":"\u001f"},{"input":[],"weight":"+1"}]} ==> weight
 {"op":"add","id":"a","suggest":[{"input":"a","contexts":[1,"\u0000"]}]} ==> reserved
 {"op":"suggest","prefix":"a","contexts":{"context":"\u001d","boost":0},"k":0} ==> reserved
-{"op":"add","id":"a","suggest":{"input":"\ufdfa\ufdfa\ufdfa\ufdfa\ufdfa\ufdfa\ufdfa\ufdfa","contexts":7}} ==> key
+{"op":"add","id":"a","suggest":{"input":"\ufdfa\ufdfa\ufdfa\ufdfa\ufdfa\ufdfa\ufdfa\ufdfa",
+ "contexts":7}}
+  ==> key
 {"op":"suggest","prefix":"a","contexts":[{"boost":0}],"k":0} ==> contexts
 {"op":"suggest","prefix":"a","contexts":{"context":"x","boost":"1"},"k":0} ==> boost
 {"op":"suggest","prefix":"a","k":1001} ==> k"#;
@@ -95,7 +104,8 @@ fn told_line(alloc: Global, line: &str) -> Result<String, Fail> {
 #[test]
 fn a_line_asks_for_a_command_or_has_an_error(rt: HostRuntime) -> Result<(), Fail> {
     let alloc = rt.alloc();
-    for row in LINES.lines() {
+    let lines = LINES.replace(alloc, "\n ", "")?;
+    for row in lines.lines() {
         let (line, wanted) = row.split_once(" ==> ").ok_or("no arrow")?;
         let told = told_line(alloc, line)?;
         let wanted = wanted.replace(alloc, "^", "\u{1f}")?;

@@ -11,7 +11,7 @@ use Rattle.serde_json.specs.Data.{Num, unsigned, negative, float, Data, null, bo
 use Rattle.serde_json.specs.Data.{string, array, object, Items, no_items, item, Members, no_members}
 use Rattle.serde_json.specs.Data.{member}
 use Rattle.serde_json.specs.Written.{number_text, comma_if, compact_text, items_text, members_text}
-use Rattle.wire_replies.specs.WrittenReplies.{text_of}
+use Rattle.wire_replies.specs.WrittenReplies.{before_line_feed}
 
 -- whether a line feed is among the bytes
 abbrev pub has_line_feed : List ℕ → Bool
@@ -98,19 +98,21 @@ one_more : (n : ℕ) → 1 + n ≡ suc n
 one_more n = omega arith
 
 -- a byte in front, where the rest is known
-text_of-cons : (x : ℕ) (xs ys : List ℕ) → (x == 10) ≡ false → text_of xs ≡ ys
-    → text_of (x ∷ xs) ≡ x ∷ ys
-text_of-cons x xs ys ends rest =
+before_line_feed-cons : (x : ℕ) (xs ys : List ℕ) → (x == 10) ≡ false → before_line_feed xs ≡ ys
+    → before_line_feed (x ∷ xs) ≡ x ∷ ys
+before_line_feed-cons x xs ys ends rest =
     let step = one_more (position_or_len (λ byte. byte == 10) xs) in
     rw (ends, step) (ap (λ (text : List ℕ). x ∷ text) rest)
 
 -- what stands before the only line feed
-text_of-none : (xs : List ℕ) → has_line_feed xs ≡ false → text_of (xs ++ 10 ∷ []) ≡ xs
-text_of-none [] none = refl
-text_of-none (x ∷ xs) none =
+before_line_feed-none : (xs : List ℕ) → has_line_feed xs ≡ false
+    → before_line_feed (xs ++ 10 ∷ []) ≡ xs
+before_line_feed-none [] none = refl
+before_line_feed-none (x ∷ xs) none =
     let p = or_parts (x == 10) (has_line_feed xs) none in
-    text_of-cons x (xs ++ 10 ∷ []) xs p.0 (text_of-none xs p.1)
+    before_line_feed-cons x (xs ++ 10 ∷ []) xs p.0 (before_line_feed-none xs p.1)
 
 -- the same of a compact text
-pub text_of-compact_text : (d : Data) → text_of (compact_text d ++ 10 ∷ []) ≡ compact_text d
-text_of-compact_text d = text_of-none (compact_text d) (none_in-compact_text d)
+pub before_line_feed-compact_text : (d : Data)
+    → before_line_feed (compact_text d ++ 10 ∷ []) ≡ compact_text d
+before_line_feed-compact_text d = before_line_feed-none (compact_text d) (none_in-compact_text d)

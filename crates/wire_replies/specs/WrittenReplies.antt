@@ -10,16 +10,16 @@ use Rattle.wire_replies.specs.Replies.{accepted}
 use Rattle.wire_replies.specs.Replies.{failed, reply_data}
 
 -- what stands before the first line feed
-abbrev pub text_of : List ℕ → List ℕ
-text_of bytes = before_first (λ byte. byte == 10) bytes
+abbrev pub before_line_feed : List ℕ → List ℕ
+before_line_feed bytes = before_first (λ byte. byte == 10) bytes
 
 -- one text without a line feed, and then a line feed
 abbrev pub IsLine : List ℕ → Type 0
-IsLine bytes = bytes ≡ text_of bytes ++ 10 ∷ []
+IsLine bytes = bytes ≡ before_line_feed bytes ++ 10 ∷ []
 
 -- the value that a line has, if it has one
 abbrev pub read_line : List ℕ → Option Data
-read_line line = read (text_of line)
+read_line line = read (before_line_feed line)
 
 -- the key of its cut, if it has one, is bytes
 abbrev pub HasByteKey : Reply → Type 0

@@ -1,6 +1,5 @@
 //! The lines that replies are written as.
 ghost use Rattle.std.specs.Prelude.{◌≡◌, IfOk, IsUtf8, map, Some, None, codes, option_map};
-ghost use Rattle.hex.specs.Hex.{encode_lower};
 ghost use Rattle.serde_json.specs.View.{view};
 ghost use Rattle.serde_json.specs.Read.{read};
 ghost use Rattle.serde_json.specs.Written.{compact_text};
@@ -179,7 +178,7 @@ pub fn reply(alloc: Global, reply: &Reply) -> Result<Vec<u8>, AllocError>
     Ok(line)
 }
 
-/// Nothing of a reply is lost on its line: replies with the same data are the same.
+/// Nothing of a reply is lost in its data: replies with the same data are the same.
 pub fn replies_with_the_same_data_are_the_same()
     ensures { DataTellTheReply }
 {}

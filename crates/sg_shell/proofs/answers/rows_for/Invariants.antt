@@ -1,3 +1,4 @@
+-- The rows of the ranks so far are out.
 use Rattle.std.proofs.Common.{◌≡◌, take, map}
 use Rattle.sg_shell.specs.Answers.{row_of}
 use Rattle.sg_shell.proofs.answers.rows_for.Given as goal

@@ -1,3 +1,4 @@
+-- An accept opens no view.
 use Rattle.std.proofs.Common.{◌∙◌, ap}
 use Rattle.index_core.specs.Histories.{Record, open_views}
 use Rattle.sg_paths.specs.Operations.{operation_of}

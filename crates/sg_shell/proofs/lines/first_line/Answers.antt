@@ -1,3 +1,4 @@
+-- With a line feed the first line ends there, and without one all is the last line.
 use Rattle.std.proofs.Common.{sym, arith}
 use Rattle.std.proofs.lemmas.Bool.Decides.{nat_tests}
 use Rattle.sg_shell.proofs.LineLemmas.{lines_of-ended, lines_of-unended}

@@ -1,6 +1,6 @@
 -- One more piece is marked.
 use Rattle.std.proofs.Common.{◌<◌, length, arith}
-use Rattle.sg_shell.specs.LastDeletes.{last_of}
+use Rattle.sg_shell.specs.LastDeletes.{number_at}
 use Rattle.sg_shell.proofs.LiveLemmas.{operations_of-drop, numbers-piece, last_delete-piece}
 use Rattle.sg_shell.proofs.live.last_deletes.Goals as goal
 
@@ -13,6 +13,6 @@ loop-piece-preserved c =
     c.piece-item.result here c.piece-item.is in
     let next = c.in_ok-from.ensures.next in (
       numbers-piece _ _ _ _ _ _ split next so_far.0,
-      λ id. last_delete-piece id _ _ _ _ _ (last_of c.loop-piece.last id) _ _ split next
+      λ id. last_delete-piece id _ _ _ _ _ (number_at c.loop-piece.last id) _ _ split next
           (c.in_ok-from.ensures.marked id) (so_far.1 id),
     )

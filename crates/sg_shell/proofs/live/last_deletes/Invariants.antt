@@ -1,6 +1,7 @@
+-- The last deletes so far, continued by the pieces to come, are those of all pieces.
 use Rattle.std.proofs.Common.{◌≡◌, ◌+◌, ℕ, List, None, drop, length}
 use Rattle.index_core.specs.OpenViews.{operations_of}
-use Rattle.sg_shell.specs.LastDeletes.{last_of, last_delete}
+use Rattle.sg_shell.specs.LastDeletes.{number_at, last_delete}
 use Rattle.sg_shell.proofs.live.last_deletes.Given as goal
 
 abbrev pub invariant-loop-piece : goal.invariant-loop-piece
@@ -8,5 +9,5 @@ invariant-loop-piece l =
     (l.from + length (operations_of (drop l.piece-index l.pieces))
     ≡ 1 + length (operations_of l.pieces))
     × ((id : List ℕ) → last_delete id l.from (operations_of (drop l.piece-index l.pieces))
-    (last_of l.last id)
+    (number_at l.last id)
     ≡ last_delete id 1 (operations_of l.pieces) None)

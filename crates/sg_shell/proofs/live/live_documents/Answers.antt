@@ -1,7 +1,7 @@
 -- One more piece is kept, and in the end all are.
 use Rattle.std.proofs.Common.{◌<◌, ◌≤◌, ◌∙◌, length, arith}
 use Rattle.index_core.specs.OpenViews.{operations_of}
-use Rattle.sg_shell.specs.LastDeletes.{last_of}
+use Rattle.sg_shell.specs.LastDeletes.{number_at}
 use Rattle.sg_shell.proofs.LiveLemmas.{operations_of-drop, numbers-piece, undeleted-piece}
 use Rattle.sg_shell.proofs.LiveLemmas.{undeleted-end, undeleted-live}
 use Rattle.sg_shell.proofs.live.live_documents.Goals as goal
@@ -15,7 +15,7 @@ loop-piece-preserved c =
     c.piece-item.result here c.piece-item.is in
     let next = c.in_ok-from.ensures.next in (
       numbers-piece _ _ _ _ _ _ split next so_far.0,
-      undeleted-piece (last_of c.in_ok-last.last) _ _ _ _ _ c.loop-piece.live.items _ _ split next
+      undeleted-piece (number_at c.in_ok-last.last) _ _ _ _ _ c.loop-piece.live.items _ _ split next
           c.in_ok-from.ensures.pushed so_far.1,
     )
 
@@ -23,7 +23,7 @@ pub returns : goal.returns
 returns c =
     let done : length c.args.pieces.now ≤ c.loop-piece.piece-index =
     omega (arith, c.loop-piece-test.false) in
-    undeleted-end (last_of c.in_ok-last.last) _ _ c.args.pieces.now _ _ done
+    undeleted-end (number_at c.in_ok-last.last) _ _ c.args.pieces.now _ _ done
     c.loop-piece.invariant.1
     ∙ undeleted-live (operations_of c.args.pieces.now)
-    (last_of c.in_ok-last.last) c.in_ok-last.ensures
+    (number_at c.in_ok-last.last) c.in_ok-last.ensures

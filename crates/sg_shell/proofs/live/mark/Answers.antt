@@ -1,3 +1,4 @@
+-- A delete becomes the last one of its id, and leaves those of the others.
 use Rattle.std.proofs.Common.{◌∙◌}
 use Rattle.std.proofs.lemmas.Map.Text.{hash_map_updates_str}
 use Rattle.sg_shell.proofs.LiveLemmas.{delete_after-change}

@@ -1,3 +1,4 @@
+-- One more line, with what it prints.
 use Rattle.std.proofs.Common.{◌+◌, arith}
 use Rattle.sg_shell.proofs.ReplyLemmas.{output-more}
 use Rattle.sg_shell.proofs.replying.replies_to.Goals as goal

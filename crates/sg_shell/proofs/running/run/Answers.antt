@@ -1,3 +1,4 @@
+-- A run without a fault ends by the length of its input.
 use Rattle.std.proofs.Common.{◌≢◌}
 use Rattle.sg_shell.specs.Ends.{source_of, sink_of}
 use Rattle.sg_shell.specs.declared.status.Status.TheVariants.{Usage}

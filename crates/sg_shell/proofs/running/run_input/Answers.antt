@@ -1,3 +1,4 @@
+-- What was read is answered.
 use Rattle.sg_shell.specs.Ends.{source_of, sink_of}
 use Rattle.sg_shell.proofs.EndLemmas.{run_ends-read}
 use Rattle.sg_shell.proofs.running.run_input.Goals as goal

@@ -6,8 +6,8 @@ use Rattle.serde_json.specs.Read.{read}
 use Rattle.serde_json.specs.Written.{compact_text}
 use Rattle.wire_replies.specs.Replies.{reply_data}
 use Rattle.wire_replies.specs.ReplyForms.{plain_reply}
-use Rattle.wire_replies.specs.WrittenReplies.{text_of}
-use Rattle.wire_replies.proofs.LineFeedLemmas.{text_of-compact_text}
+use Rattle.wire_replies.specs.WrittenReplies.{before_line_feed}
+use Rattle.wire_replies.proofs.LineFeedLemmas.{before_line_feed-compact_text}
 use Rattle.wire_replies.proofs.reply_lines.reply.Goals as goal
 
 -- the bytes are the text and a line feed
@@ -18,14 +18,15 @@ ended c =
     ∙ ap (λ (text : List ℕ). text ++ 10 ∷ []) c.in_ok-line.ensures.text
 
 -- and that text stands before it
-text_of-line : (c : goal.In_ok-push) → text_of c.push.new.self.items
+before_line_feed-line : (c : goal.In_ok-push) → before_line_feed c.push.new.self.items
     ≡ compact_text (reply_data (plain_reply c.args.reply.now))
-text_of-line c =
-    ap text_of (ended c) ∙ text_of-compact_text (reply_data (plain_reply c.args.reply.now))
+before_line_feed-line c =
+    ap before_line_feed (ended c)
+    ∙ before_line_feed-compact_text (reply_data (plain_reply c.args.reply.now))
 
 pub returns-clause-one_line : goal.returns-clause-one_line
 returns-clause-one_line c =
-    ended c ∙ ap (λ (text : List ℕ). text ++ 10 ∷ []) (sym (text_of-line c))
+    ended c ∙ ap (λ (text : List ℕ). text ++ 10 ∷ []) (sym (before_line_feed-line c))
 
 pub returns-clause-utf8 : goal.returns-clause-utf8
 returns-clause-utf8 c =
@@ -35,4 +36,5 @@ returns-clause-utf8 c =
 
 pub returns-clause-reads_back : goal.returns-clause-reads_back
 returns-clause-reads_back c =
-    ap read (text_of-line c ∙ sym c.in_ok-line.ensures.text) ∙ c.in_ok-line.ensures.reads_back
+    ap read (before_line_feed-line c ∙ sym c.in_ok-line.ensures.text)
+    ∙ c.in_ok-line.ensures.reads_back

@@ -1,0 +1,117 @@
+use super::*;
+use sg_base::{Bytes, Key, Text};
+use sg_edge::{MemorySink, MemorySource};
+use sg_paths::{Document, Numbered, Op, Suggestion, live_documents_of};
+use std::alloc::Global;
+use std::test::Fail;
+
+// Journals as they are spelled: `+x` adds, `=x` updates and `-x` deletes the id `x`. A query stands
+// at each `|`, and freezes what is buffered.
+const JOURNALS: &str = "+x
++x +x
++x +y | -x
++x -x | +x
++x =x +y
++x | +x | =x | +y
++x | -x -y |
+=x | -x -x
++a +b =a | -b +b -c | =c -a +a";
+
+fn document(alloc: Global, id: &str) -> Result<Document, Fail> {
+    let text = Text::of(alloc, "a")?;
+    let key = Key::of(Bytes::of(alloc, b"a")?)?;
+    let mut suggestions = Vec::new(alloc);
+    suggestions.push(Suggestion::new(text, key, 1, Vec::new(alloc))?)?;
+    Ok(Document::new(Text::of(alloc, id)?, suggestions)?)
+}
+
+fn op_of(alloc: Global, kind: &str, id: &str) -> Result<Op, Fail> {
+    Ok(match kind {
+        "+" => Op::Add(document(alloc, id)?),
+        "=" => Op::Update(document(alloc, id)?),
+        _ => Op::Delete(Text::of(alloc, id)?),
+    })
+}
+
+fn journal_of(alloc: Global, spelled: &str) -> Result<Vec<Op>, Fail> {
+    let mut journal = Vec::new(alloc);
+    for word in spelled.split_whitespace() {
+        let (kind, id) = word.split_at_checked(1).ok_or("no kind")?;
+        if kind != "|" {
+            journal.push(op_of(alloc, kind, id)?)?;
+        }
+    }
+    Ok(journal)
+}
+
+fn line_of(alloc: Global, kind: &str, id: &str) -> Result<String, Fail> {
+    Ok(match kind {
+        "+" => format!(in alloc; "{{\"op\":\"add\",\"id\":\"{id}\",\"suggest\":\"a\"}}\n")?,
+        "=" => format!(in alloc; "{{\"op\":\"update\",\"id\":\"{id}\",\"suggest\":\"a\"}}\n")?,
+        "-" => format!(in alloc; "{{\"op\":\"delete\",\"id\":\"{id}\"}}\n")?,
+        _ => format!(in alloc; "{{\"op\":\"suggest\",\"prefix\":\"\",\"k\":1000}}\n")?,
+    })
+}
+
+fn input_of(alloc: Global, spelled: &str) -> Result<String, Fail> {
+    let mut input = String::new(alloc);
+    for word in spelled.split_whitespace() {
+        let (kind, id) = word.split_at_checked(1).ok_or("no kind")?;
+        input.push_str(line_of(alloc, kind, id)?.as_str())?;
+    }
+    input.push_str(line_of(alloc, "|", "")?.as_str())?;
+    Ok(input)
+}
+
+// The rows of documents that all have one text and one weight: by number.
+fn rows_of(alloc: Global, live: &[Numbered]) -> Result<String, Fail> {
+    let mut rows = String::new(alloc);
+    for numbered in live {
+        let id = numbered.document.id.as_str();
+        let seq = numbered.seq;
+        if !rows.is_empty() {
+            rows.push(',')?;
+        }
+        let row = format!(in alloc;
+            "{{\"id\":\"{id}\",\"score\":1,\"seq\":{seq},\"text\":\"a\"}}"
+        )?;
+        rows.push_str(row.as_str())?;
+    }
+    Ok(rows)
+}
+
+// The last line of what a run prints.
+fn last_line(alloc: Global, input: &str) -> Result<String, Fail> {
+    let mut words = Vec::new(alloc);
+    words.push(Text::of(alloc, "run")?)?;
+    let mut source = MemorySource::new(input.as_bytes().to_vec(alloc)?, false, Vec::new(alloc));
+    let mut sink = MemorySink::new(alloc, Vec::new(alloc));
+    if run(alloc, words.as_slice(), &mut source, &mut sink) != Status::Done {
+        return Err("the run isn't done".into());
+    }
+    let output = std::str::from_utf8(sink.given())?;
+    let last = output.lines().last().ok_or("no reply")?;
+    Ok(String::from_str(alloc, last)?)
+}
+
+#[test]
+fn a_query_over_all_finds_what_the_plain_program_finds(rt: HostRuntime) -> Result<(), Fail> {
+    let alloc = rt.alloc();
+    for spelled in JOURNALS.lines() {
+        let journal = journal_of(alloc, spelled)?;
+        let live = live_documents_of(alloc, journal.as_slice())?;
+        let rows = rows_of(alloc, live.as_slice())?;
+        let input = input_of(alloc, spelled)?;
+        let line = input.lines().count();
+        let upto = journal.len();
+        let wanted = format!(in alloc;
+            "{{\"complete\":true,\"line\":{line},\"rows\":[{rows}],\"upto\":{upto}}}"
+        )?;
+        assert_eq!(rt;
+            last_line(alloc, input.as_str())?.as_str(),
+            wanted.as_str(),
+            "{spelled}"
+        );
+    }
+    Ok(())
+}
