@@ -11,13 +11,13 @@ use Rattle.std.proofs.lemmas.Bool.{not-false, and_from}
 use Rattle.std.proofs.lemmas.Bool.Decides.{nat_tests}
 use Rattle.std.proofs.lemmas.Str.{encodes-append, encodes-chars, chars_past_char, chars-nil}
 use Rattle.std.proofs.lemmas.Str.{IsUtf8-past_char, length-le-encodes}
-use Rattle.sg_analysis.specs.Analysis.{split_at_white_space, is_filled, tokens, separator, joined}
+use Rattle.sg_analysis.specs.Analysis.{split_at_white_space, is_filled, tokens, separator, joined_tokens}
 use Rattle.sg_analysis.specs.Joining.{lead}
 use Rattle.sg_analysis.proofs.TextLemmas.{chars-encoded}
 
 -- what the tokens to come add, where it is said whether they are the first
 abbrev pub continued : Bool → Bool → List (List ℕ) → List ℕ
-continued separators true ts = joined separators ts
+continued separators true ts = joined_tokens separators ts
 continued separators false ts = flat_map (λ t. separator separators ++ encode_utf8_all t) ts
 
 -- white space in front makes no token
@@ -151,13 +151,13 @@ filter_filled (part ∷ parts) =
     kept_filled (is_filled part) part (filter is_filled parts) refl (filter_filled parts)
 
 joined-empty : (separators : Bool) (ts : List (List ℕ)) → list_all is_filled ts ≡ true
-    → (length (joined separators ts) == 0) ≡ (length ts == 0)
+    → (length (joined_tokens separators ts) == 0) ≡ (length ts == 0)
 joined-empty separators [] filled = refl
 joined-empty separators (t ∷ ts) filled =
     grind (arith, nat_tests, length-append, length-le-encodes t)
 
 -- no byte is joined exactly where there is no token
 pub joined_tokens-empty : (separators : Bool) (cs : List ℕ)
-    → (length (joined separators (tokens cs)) == 0) ≡ (length (tokens cs) == 0)
+    → (length (joined_tokens separators (tokens cs)) == 0) ≡ (length (tokens cs) == 0)
 joined_tokens-empty separators cs =
     joined-empty separators (tokens cs) (filter_filled (split_at_white_space cs))

@@ -1,10 +1,11 @@
-//! The analyzer.
-ghost use Rattle.std.specs.Prelude.{◌≡◌, ◌<◌, true, IsTrue, IfOk, IfErr, chars, length};
+//! Keys of texts, and why a text has none.
+ghost use Rattle.std.specs.Prelude.{◌≡◌, ◌<◌, true, IsTrue, IfOk, chars, length};
 ghost use Rattle.std.specs.List.{list_all, position_from};
+ghost use Rattle.sg_base.specs.Gives.{Gives};
 ghost use Rattle.sg_base.specs.Keys.{is_key_byte};
 ghost use Rattle.sg_base.specs.ReservedBytes.{is_reserved};
 ghost use Rattle.sg_analysis.specs.Analysis.{analysis_of, analysis_of_folded, analysis_of_tokens};
-ghost use Rattle.sg_analysis.specs.Analysis.{analysis_of_joined, tokens, key, Refuses};
+ghost use Rattle.sg_analysis.specs.Analysis.{analysis_of_joined, tokens, is_memory};
 ghost use Rattle.sg_analysis.specs.declared.analyzer.KeyError.TheVariants.{Memory};
 
 use crate::folding::folded_text;
@@ -59,8 +60,7 @@ impl From<AllocError> for KeyError {
 // The bytes as a key, unless there are too many.
 fn key_of_joined(joined: Vec<u8>) -> Result<Key, KeyError>
     requires { list_all is_key_byte joined.items ≡ true }
-    ensures ok { IfOk result (λ k. analysis_of_joined joined.items ≡ key k) }
-    ensures refused { IfErr result (Refuses (analysis_of_joined joined.items)) }
+    ensures given { Gives is_memory result (analysis_of_joined joined.items) }
     ensures same { IfOk result (λ k. k ≡ joined.items) }
 {
     let bytes = joined.len();
@@ -75,10 +75,8 @@ fn key_of_joined(joined: Vec<u8>) -> Result<Key, KeyError>
 // The key of a folded text without a reserved byte.
 fn key_of_tokens(alloc: Global, folded: &str, separators: bool, cut: bool) -> Result<Key, KeyError>
     requires { position_from is_reserved 0 folded.now ≡ None }
-    ensures ok { IfOk result
-        (λ k. analysis_of_tokens separators (tokens (chars folded.now)) cut ≡ key k) }
-    ensures refused { IfErr result
-        (Refuses (analysis_of_tokens separators (tokens (chars folded.now)) cut)) }
+    ensures given { Gives is_memory result
+        (analysis_of_tokens separators (tokens (chars folded.now)) cut) }
     ensures filled { IfOk result (λ k. IsTrue cut → 0 < length k) }
 {
     let joined = joined_tokens(alloc, folded, separators)?;
@@ -90,10 +88,8 @@ fn key_of_tokens(alloc: Global, folded: &str, separators: bool, cut: bool) -> Re
 
 // The key of a folded text.
 fn key_of_folded(alloc: Global, folded: &str, separators: bool, cut: bool) -> Result<Key, KeyError>
-    ensures ok { IfOk result
-        (λ k. analysis_of_folded separators (chars folded.now) cut ≡ key k) }
-    ensures refused { IfErr result
-        (Refuses (analysis_of_folded separators (chars folded.now) cut)) }
+    ensures given { Gives is_memory result
+        (analysis_of_folded separators (chars folded.now) cut) }
     ensures filled { IfOk result (λ k. IsTrue cut → 0 < length k) }
 {
     let bytes = folded.as_bytes();
@@ -110,8 +106,7 @@ impl Analyzer {
     /// The key of a text: of an input with the cut, of a query's prefix without it. The errors in
     /// order: `Reserved`, `Empty`, `TooLong`, `Memory`.
     pub fn key(&self, alloc: Global, text: &str, cut: bool) -> Result<Key, KeyError>
-        ensures ok { IfOk result (λ k. analysis_of self.now text.now cut ≡ key k) }
-        ensures refused { IfErr result (Refuses (analysis_of self.now text.now cut)) }
+        ensures given { Gives is_memory result (analysis_of self.now text.now cut) }
         ensures filled { IfOk result (λ k. IsTrue cut → 0 < length k) }
     {
         let folded = folded_text(alloc, text, cut)?;

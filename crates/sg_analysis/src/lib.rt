@@ -7,7 +7,4 @@ mod folding;
 mod joining;
 
 pub use analyzer::{Analyzer, KeyError};
-pub use folding::MOST_INPUT_CHARS;
-
-#[cfg(test)]
-mod tests;
+pub use folding::{MOST_INPUT_CHARS, limits_are_exact};

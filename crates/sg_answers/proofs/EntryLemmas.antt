@@ -1,14 +1,13 @@
 -- What suggestions have in their contexts: an entry over which another is kept doesn't come first,
 -- since every boost is at least 1, and of one suggestion the greatest boost does.
-use Rattle.std.proofs.Common.{◌≡◌, ◌⊎◌, inl, inr, ℕ, ◌+◌, ◌*◌, ◌<◌, ◌≤◌, Bool, true, false}
-use Rattle.std.proofs.Common.{◌&&◌, ◌||◌, List, [], ◌∷◌, map, Option, Some, None, refl}
+use Rattle.std.proofs.Common.{◌≡◌, inl, inr, ℕ, ◌+◌, ◌*◌, ◌<◌, ◌≤◌, Bool, true, false}
+use Rattle.std.proofs.Common.{List, [], ◌∷◌, map, Option, Some, None, refl}
 use Rattle.std.proofs.Common.{sym, ap, ◌∙◌, arith, length, get_or, drop, drop-cons, add-one}
 use Rattle.std.proofs.Math.Nat.{mul-le-mul_right}
-use Rattle.std.specs.Prelude.{nat_eq, nat_lt, bytes_eq, filter_map, option_map, All}
+use Rattle.std.specs.Prelude.{nat_eq, bytes_eq, filter_map, option_map, All}
 use Rattle.std.specs.List.{starts_with}
 use Rattle.std.specs.Ordering.{is_lt}
 use Rattle.std.specs.Cmp.Lexicographic.{bytes_decides}
-use Rattle.std.proofs.lemmas.Bool.{ltb-true, eqb-true}
 use Rattle.std.proofs.lemmas.List.{append-nil}
 use Rattle.std.proofs.lemmas.List.Elements.{filter_map-append}
 use Rattle.sg_base.specs.Ranking.{rank_cmp, rank_cmp_total}
@@ -18,9 +17,10 @@ use Rattle.sg_context.specs.Boosts.{IsBoost, boost_of}
 use Rattle.sg_context.specs.Queries.{PlainQuery}
 use Rattle.sg_context.proofs.BoostLemmas.{boost_of-IsBoost}
 use Rattle.sg_paths.specs.Documents.{PlainSuggestion}
-use Rattle.sg_paths.specs.Operations.{NumberedDocument}
+use Rattle.sg_paths.specs.Operations.{PlainNumbered}
 use Rattle.sg_paths.specs.Paths.{PlainPath, distinct_texts, contexts_of, entries_from}
 use Rattle.sg_paths.specs.Paths.{is_kept_over}
+use Rattle.sg_paths.proofs.PathLemmas.{Wins, IsKeptOver, kept_over}
 use Rattle.sg_answers.specs.Answers.{path_boost, path_rank, rank_with, first_rank, document_row}
 use Rattle.sg_answers.specs.Scans.{sooner, given_contexts, greatest_boost, first_entry}
 use Rattle.sg_answers.proofs.FirstLemmas.{soonest, Earlier, first-unbeaten, first-append}
@@ -29,40 +29,6 @@ use Rattle.sg_answers.proofs.ScoreLemmas.{greater_first, earlier_place_first, wi
 use Rattle.sg_answers.proofs.ScoreLemmas.{greatest_first}
 
 -- ---- entries of one context and key
-
--- a greater weight, or an earlier place at the same weight
-abbrev Wins : PlainPath → PlainPath → Type 0
-Wins p q = (q.weight < p.weight) ⊎ ((p.weight ≡ q.weight) × (p.place < q.place))
-
-record IsKeptOver (p q : PlainPath) : Type 0 where
-  context : p.context ≡ q.context
-  key : p.key ≡ q.key
-  wins : Wins p q
-
-wins : (p q : PlainPath) (more same less : Bool) → nat_lt q.weight p.weight ≡ more
-    → nat_eq p.weight q.weight ≡ same → nat_lt p.place q.place ≡ less
-    → (more || (same && less)) ≡ true → Wins p q
-wins p q true same less is-more is-same is-less is = inl (ltb-true q.weight p.weight is-more)
-wins p q false true true is-more is-same is-less is =
-    inr (eqb-true p.weight q.weight is-same, ltb-true p.place q.place is-less)
-wins p q false true false is-more is-same is-less is = cc
-wins p q false false less is-more is-same is-less is = cc
-
-kept_at : (p q : PlainPath) (context key won : Bool) → bytes_eq p.context q.context ≡ context
-    → bytes_eq p.key q.key ≡ key → (won ≡ true → Wins p q)
-    → (context && key && won) ≡ true → IsKeptOver p q
-kept_at p q true true true is-context is-key wins is = record {
-  context = (bytes_decides p.context q.context).0 is-context;
-  key = (bytes_decides p.key q.key).0 is-key;
-  wins = wins refl;
-}
-kept_at p q true true false is-context is-key wins is = cc
-kept_at p q true false won is-context is-key wins is = cc
-kept_at p q false key won is-context is-key wins is = cc
-
-kept_over : (p q : PlainPath) → is_kept_over p q ≡ true → IsKeptOver p q
-kept_over p q is =
-    kept_at p q _ _ _ refl refl (wins p q _ _ _ refl refl refl) is
 
 -- with one boost the one that is kept stands first
 wins_first : (seq boost : ℕ) (p q : PlainPath) → 1 ≤ boost → p.key ≡ q.key → Wins p q
@@ -110,7 +76,7 @@ earlier query seq boosts p q kept r is =
     earlier_at query seq boosts p q (kept_over p q kept) r (path_boost query q) refl is
 
 -- the first of all entries is the first of the paths
-pub first_entry-row : (query : PlainQuery) (d : NumberedDocument)
+pub first_entry-row : (query : PlainQuery) (d : PlainNumbered)
     → All (λ c. IsBoost c.boost) query.contexts
     → first_entry query d.seq 0 d.document.suggestions ≡ document_row query d
 first_entry-row query d boosts =

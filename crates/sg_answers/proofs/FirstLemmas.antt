@@ -8,10 +8,10 @@ use Rattle.std.specs.declared.cmp.Ordering.TheVariants.{Equal}
 use Rattle.std.specs.Cmp.{IsTotalOrder, IsStrictWeakOrder}
 use Rattle.std.proofs.lemmas.List.MinMax.{ranks_by}
 use Rattle.std.proofs.lemmas.List.Elements.{All-nil, All-cons, All-contains, All-weaker}
-use Rattle.std.proofs.lemmas.List.Elements.{Contains-append_right}
 use Rattle.std.proofs.lemmas.List.Folds.{Any-from_list_any}
 use Rattle.sg_base.specs.Ranking.{put_in, in_order}
 use Rattle.sg_base.proofs.Sorting.{not_below_itself, neither_below}
+use Rattle.sg_paths.proofs.PathLemmas.{passes}
 use Rattle.sg_answers.specs.Scans.{sooner}
 
 -- the first of what h gives of the items
@@ -29,27 +29,6 @@ abbrev pub Earlier : {X Y : Type 0} → (X → X → Ordering) → (Y → Option
 Earlier {X} {Y} R h over =
     (z y : Y) → over z y ≡ true → (x : X) → h y ≡ Some x
     → (w : X) × (h z ≡ Some w) × (is_lt (R w x) ≡ true)
-
--- an item that passes a test stays
-passes_at : {Y : Type 0} (keep : Y → Bool) (y : Y) (ys : List Y) (b : Bool) → keep y ≡ b
-    → All (λ z. keep z ≡ true → Contains (filter keep ys) z) ys
-    → All (λ z. keep z ≡ true → Contains (filter keep (y ∷ ys)) z) (y ∷ ys)
-passes_at {Y} keep y ys true is later =
-    let stay = filter keep ys in
-    rw is (All-cons (λ z. keep z ≡ true → Contains (y ∷ stay) z) y ys
-    (λ _. (0, omega arith, refl))
-    (All-weaker (λ z. keep z ≡ true → Contains stay z)
-    (λ z. keep z ≡ true → Contains (y ∷ stay) z)
-    (λ z there passes. Contains-append_right (y ∷ []) stay z (there passes)) ys later))
-passes_at {Y} keep y ys false is later =
-    rw is (All-cons (λ z. keep z ≡ true → Contains (filter keep ys) z) y ys
-    (λ passes. absurd (let no : false ≡ true = sym is ∙ passes in cc))
-    later)
-
-passes : {Y : Type 0} (keep : Y → Bool) (ys : List Y)
-    → All (λ z. keep z ≡ true → Contains (filter keep ys) z) ys
-passes keep [] = All-nil (λ z. keep z ≡ true → Contains (filter keep []) z)
-passes keep (y ∷ ys) = passes_at keep y ys (keep y) refl (passes keep ys)
 
 module _ {X : Type 0} (R : X → X → Ordering) (total : IsTotalOrder R)
     (same : (x y : X) → R x y ≡ Equal → x ≡ y) where

@@ -8,12 +8,12 @@ use Rattle.std.proofs.lemmas.Bool.{ltb-true, ltb-false, ne_eqb, eq-eqb, cases_eq
 use Rattle.std.proofs.lemmas.List.Elements.{All-nil, All-cons, All-head, All-tail, All-weaker}
 use Rattle.std.proofs.lemmas.List.Kept.{IsNonDecreasingBy-filter}
 use Rattle.sg_paths.specs.Documents.{PlainDocument}
-use Rattle.sg_paths.specs.Operations.{Operation, added_document, NumberedDocument, documents_from}
+use Rattle.sg_paths.specs.Operations.{PlainOp, added_document, PlainNumbered, documents_from}
 use Rattle.sg_paths.specs.LiveDocuments.{is_deleted, live_documents}
 use Rattle.sg_answers.specs.Scans.{if_numbered}
 
 -- what a test of the numbers parts
-pub parted : (n i : ℕ) (ds : List NumberedDocument)
+pub parted : (n i : ℕ) (ds : List PlainNumbered)
     → IsPartitionPoint (λ d. nat_lt d.seq n ≡ true) (λ d. nat_lt d.seq n ≡ false) ds i
     → IsPartitionPoint (λ d. d.seq < n) (λ d. n ≤ d.seq) ds i
 parted n i ds parts = (
@@ -21,7 +21,7 @@ parted n i ds parts = (
   λ k d low high. ltb-false _ n (parts.1 k d low high),
 )
 
-find-none : (n : ℕ) (ds : List NumberedDocument) → All (λ d. n < d.seq) ds
+find-none : (n : ℕ) (ds : List PlainNumbered) → All (λ d. n < d.seq) ds
     → find (λ d. d.seq == n) ds ≡ None
 find-none n [] all = refl
 find-none n (d ∷ ds) all =
@@ -30,7 +30,7 @@ find-none n (d ∷ ds) all =
     rw differs (find-none n ds (All-tail (λ e. n < e.seq) d ds all))
 
 -- the first document is the only one that may have the number
-first_only : (n : ℕ) (d : NumberedDocument) (ds : List NumberedDocument)
+first_only : (n : ℕ) (d : PlainNumbered) (ds : List PlainNumbered)
     → IsNonDecreasingBy (λ e. e.seq) (d ∷ ds) → n ≤ d.seq → (d.seq ≡ n) ⊎ (d.seq ≡ n → ⊥)
     → find (λ e. e.seq == n) (d ∷ ds) ≡ if_numbered n (Some d)
 first_only n d ds rising least (inl same) =
@@ -43,7 +43,7 @@ first_only n d ds rising least (inr other) =
     omega (arith, up, least, other)))
 
 -- what stands behind those with a lesser number, if it has the number
-pub find-at : (n i : ℕ) (ds : List NumberedDocument) → IsNonDecreasingBy (λ d. d.seq) ds
+pub find-at : (n i : ℕ) (ds : List PlainNumbered) → IsNonDecreasingBy (λ d. d.seq) ds
     → IsPartitionPoint (λ d. d.seq < n) (λ d. n ≤ d.seq) ds i
     → find (λ d. d.seq == n) ds ≡ if_numbered n (slice_get ds i)
 find-at n i [] rising parts = refl
@@ -60,7 +60,7 @@ find-at n (suc i) (d ∷ ds) rising parts =
 
 -- ---- live documents
 
-rising-cons : (d : NumberedDocument) (ds : List NumberedDocument) → All (λ e. d.seq ≤ e.seq) ds
+rising-cons : (d : PlainNumbered) (ds : List PlainNumbered) → All (λ e. d.seq ≤ e.seq) ds
     → IsNonDecreasingBy (λ e. e.seq) ds → IsNonDecreasingBy (λ e. e.seq) (d ∷ ds)
 rising-cons d ds least rising zero zero e up within = omega arith
 rising-cons d ds least rising zero (suc j) e up within = least j e (omega (arith, within))
@@ -68,11 +68,11 @@ rising-cons d ds least rising (suc i) zero e up within = absurd (omega (arith, u
 rising-cons d ds least rising (suc i) (suc j) e up within =
     rising i j e (omega (arith, up)) (omega (arith, within))
 
-abbrev numbered : ℕ → PlainDocument → NumberedDocument
+abbrev numbered : ℕ → PlainDocument → PlainNumbered
 numbered n document = record { seq = n; document = document }
 
 -- at least the number of the first operation
-least-cons : (n : ℕ) (added : Option PlainDocument) (ds : List NumberedDocument)
+least-cons : (n : ℕ) (added : Option PlainDocument) (ds : List PlainNumbered)
     → All (λ d. n + 1 ≤ d.seq) ds
     → All (λ d. n ≤ d.seq) (option_to_list (option_map (numbered n) added) ++ ds)
 least-cons n None ds least =
@@ -81,13 +81,13 @@ least-cons n (Some document) ds least =
     All-cons (λ d. n ≤ d.seq) (numbered n document) ds (omega arith)
     (All-weaker (λ d. n + 1 ≤ d.seq) (λ d. n ≤ d.seq) (λ d h. omega (arith, h)) ds least)
 
-documents_from-least : (n : ℕ) (ops : List Operation) → All (λ d. n ≤ d.seq) (documents_from n ops)
+documents_from-least : (n : ℕ) (ops : List PlainOp) → All (λ d. n ≤ d.seq) (documents_from n ops)
 documents_from-least n [] = All-nil (λ d. n ≤ d.seq)
 documents_from-least n (operation ∷ later) =
     least-cons n (added_document operation) (documents_from (n + 1) later)
     (documents_from-least (n + 1) later)
 
-rising-added : (n : ℕ) (added : Option PlainDocument) (ds : List NumberedDocument)
+rising-added : (n : ℕ) (added : Option PlainDocument) (ds : List PlainNumbered)
     → All (λ d. n + 1 ≤ d.seq) ds → IsNonDecreasingBy (λ d. d.seq) ds
     → IsNonDecreasingBy (λ d. d.seq) (option_to_list (option_map (numbered n) added) ++ ds)
 rising-added n None ds least rising = rising
@@ -95,7 +95,7 @@ rising-added n (Some document) ds least rising =
     rising-cons (numbered n document) ds
     (All-weaker (λ d. n + 1 ≤ d.seq) (λ d. n ≤ d.seq) (λ d h. omega (arith, h)) ds least) rising
 
-documents_from-rising : (n : ℕ) (ops : List Operation)
+documents_from-rising : (n : ℕ) (ops : List PlainOp)
     → IsNonDecreasingBy (λ d. d.seq) (documents_from n ops)
 documents_from-rising n [] = λ i j e up within. absurd (omega (arith, within))
 documents_from-rising n (operation ∷ later) =
@@ -103,7 +103,7 @@ documents_from-rising n (operation ∷ later) =
     (documents_from-least (n + 1) later) (documents_from-rising (n + 1) later)
 
 -- the numbers of the live documents of a journal don't fall
-pub live_documents-rising : (journal : List Operation) (upto : ℕ)
+pub live_documents-rising : (journal : List PlainOp) (upto : ℕ)
     → IsNonDecreasingBy (λ d. d.seq) (live_documents journal upto)
 live_documents-rising journal upto =
     IsNonDecreasingBy-filter (λ d. d.seq) (λ d. not (is_deleted journal upto d))

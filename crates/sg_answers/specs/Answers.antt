@@ -2,14 +2,15 @@
 -- Lucene's PrefixCompletionQuery, and the score is that of Elasticsearch's context suggester. That
 -- a document has one row, which it is, and that a weight of 0 has the score 0, is this project's
 -- own.
-use Rattle.std.specs.Prelude.{ℕ, ◌*◌, nat_eq, if◌then◌else◌, List, Option, None, option_map}
-use Rattle.std.specs.Prelude.{filter_map, slice_get, take}
+use Rattle.std.specs.Prelude.{◌≡◌, ℕ, ◌*◌, nat_eq, min, if◌then◌else◌, List, ◌++◌, Option, None}
+use Rattle.std.specs.Prelude.{option_map, length, filter_map, slice_get, take}
 use Rattle.std.specs.List.{starts_with}
+use Rattle.std.specs.List.Sorted.{IsPermutation, IsSorted}
 use Rattle.sg_base.specs.Ranking.{rank_cmp, in_order}
 use Rattle.sg_base.specs.declared.rank.Rank.{Rank}
 use Rattle.sg_context.specs.Boosts.{boost_of}
 use Rattle.sg_context.specs.Queries.{PlainQuery}
-use Rattle.sg_paths.specs.Operations.{NumberedDocument}
+use Rattle.sg_paths.specs.Operations.{PlainNumbered}
 use Rattle.sg_paths.specs.Paths.{PlainPath, paths}
 
 -- the boost of a path that matches: its key begins with the query's, and its context has a boost
@@ -27,7 +28,7 @@ abbrev pub path_rank : PlainQuery → ℕ → PlainPath → Option Rank
 path_rank query seq p = option_map (rank_with seq p) (path_boost query p)
 
 -- the ranks of the paths of a document that match
-abbrev pub matching_ranks : PlainQuery → NumberedDocument → List Rank
+abbrev pub matching_ranks : PlainQuery → PlainNumbered → List Rank
 matching_ranks query d = filter_map (path_rank query d.seq) (paths d.document)
 
 -- the first by rank, where there is one
@@ -35,13 +36,21 @@ abbrev pub first_rank : List Rank → Option Rank
 first_rank ranks = slice_get (in_order rank_cmp ranks) 0
 
 -- a document's row, the first of its ranks, if one of its paths matches
-abbrev pub document_row : PlainQuery → NumberedDocument → Option Rank
+abbrev pub document_row : PlainQuery → PlainNumbered → Option Rank
 document_row query d = first_rank (matching_ranks query d)
 
 -- the rows of the documents, in rank order
-abbrev pub answer : PlainQuery → List NumberedDocument → List Rank
+abbrev pub answer : PlainQuery → List PlainNumbered → List Rank
 answer query ds = in_order rank_cmp (filter_map (document_row query) ds)
 
 -- as many of them as are asked for, or all where there are fewer
-abbrev pub first_rows : PlainQuery → List NumberedDocument → List Rank
+abbrev pub first_rows : PlainQuery → List PlainNumbered → List Rank
 first_rows query ds = take query.k (answer query ds)
+
+-- the first k of all rows, or all where there are fewer: with the others behind them they are all
+-- rows, in rank order
+pub record AreFirst (k : ℕ) (all rows : List Rank) : Type 0 where
+  pub others : List Rank
+  pub permutation : IsPermutation all (rows ++ others)
+  pub sorted : IsSorted rank_cmp (rows ++ others)
+  pub count : length rows ≡ min k (length all)

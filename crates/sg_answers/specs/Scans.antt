@@ -9,7 +9,7 @@ use Rattle.std.specs.declared.cmp.Ordering.{Ordering}
 use Rattle.sg_context.specs.Boosts.{PlainQueryContext, boost_of}
 use Rattle.sg_context.specs.Queries.{PlainQuery}
 use Rattle.sg_paths.specs.Documents.{PlainSuggestion}
-use Rattle.sg_paths.specs.Operations.{NumberedDocument}
+use Rattle.sg_paths.specs.Operations.{PlainNumbered}
 use Rattle.sg_paths.specs.Paths.{entries_from}
 use Rattle.sg_answers.specs.Answers.{path_rank, first_rank}
 
@@ -34,6 +34,6 @@ first_entry query seq place suggestions =
     first_rank (filter_map (path_rank query seq) (entries_from place suggestions))
 
 -- a document, where it has the number
-abbrev pub if_numbered : ℕ → Option NumberedDocument → Option NumberedDocument
+abbrev pub if_numbered : ℕ → Option PlainNumbered → Option PlainNumbered
 if_numbered n None = None
 if_numbered n (Some d) = if d.seq == n then Some d else None

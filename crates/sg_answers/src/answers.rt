@@ -3,10 +3,10 @@ ghost use Rattle.std.specs.Prelude.{◌≡◌, ◌≤◌, [], ◌∷◌, IfOk, l
 ghost use Rattle.sg_paths.specs.declared.limits.TheConstants.{MOST_SUGGESTIONS};
 ghost use Rattle.sg_base.specs.Ranking.{rank_cmp};
 ghost use Rattle.sg_context.specs.Queries.{IsQuery};
-ghost use Rattle.sg_answers.specs.Answers.{document_row, first_rows};
+ghost use Rattle.sg_answers.specs.Answers.{document_row, first_rows, AreFirst};
 ghost use Rattle.sg_answers.specs.Scans.{given_contexts, greatest_boost, first_entry, sooner};
 
-use crate::live_document::LiveDocument;
+use crate::numbered_ref::NumberedRef;
 use sg_base::{Context, Rank, RankRef};
 use sg_context::{Boost, Query, QueryContext, boost_of};
 use sg_paths::Suggestion;
@@ -82,7 +82,7 @@ fn first_candidate<'d>(
 }
 
 // The row of a document, if one of its suggestions matches.
-fn row_of_document<'p>(query: &Query, document: &LiveDocument<'p>) -> Option<RankRef<'p>>
+fn row_of_document<'p>(query: &Query, document: &NumberedRef<'p>) -> Option<RankRef<'p>>
     requires { IsQuery query.now }
     ensures { result ≡ document_row query.now document.now }
 {
@@ -93,7 +93,7 @@ fn row_of_document<'p>(query: &Query, document: &LiveDocument<'p>) -> Option<Ran
 fn rows_of<'p>(
     alloc: Global,
     query: &Query,
-    documents: &[LiveDocument<'p>],
+    documents: &[NumberedRef<'p>],
 ) -> Result<Vec<RankRef<'p>>, AllocError>
     requires { IsQuery query.now }
     ensures { IfOk result (λ rows. rows.items
@@ -110,7 +110,7 @@ fn ranks_of(alloc: Global, rows: &[RankRef<'_>]) -> Result<Vec<Rank>, AllocError
 {
     let mut ranks = Vec::with_capacity(alloc, rows.len())?;
     for row in rows {
-        ranks.push(row.to_rank(alloc)?)?;
+        ranks.push(row.to_rank()?)?;
     }
     Ok(ranks)
 }
@@ -121,9 +121,11 @@ fn ranks_of(alloc: Global, rows: &[RankRef<'_>]) -> Result<Vec<Rank>, AllocError
 pub fn first_rows(
     alloc: Global,
     query: &Query,
-    documents: &[LiveDocument<'_>],
+    documents: &[NumberedRef<'_>],
 ) -> Result<Vec<Rank>, AllocError>
-    ensures { IfOk result (λ rows. rows.items ≡ first_rows query.now documents.now) }
+    ensures value { IfOk result (λ rows. rows.items ≡ first_rows query.now documents.now) }
+    ensures first { IfOk result (λ rows. AreFirst query.now.k
+        (filter_map (document_row query.now) documents.now) rows.items) }
 {
     // A field is read first: with it the query's limits are known, which the rows ask for.
     let most = query.k as usize;

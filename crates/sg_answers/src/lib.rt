@@ -3,10 +3,7 @@
 #![tactic(auto)]
 
 mod answers;
-mod live_document;
+mod numbered_ref;
 
 pub use answers::first_rows;
-pub use live_document::{LiveDocument, document_with};
-
-#[cfg(test)]
-mod tests;
+pub use numbered_ref::{NumberedRef, document_with};

@@ -1,2 +1,3 @@
+pub mod Limits
 pub mod Boosts
 pub mod Queries

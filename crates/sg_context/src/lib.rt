@@ -9,10 +9,7 @@ mod query_context;
 
 pub use boosts::boost_of;
 pub use limits::{
-    Boost, DEFAULT_BOOST, DEFAULT_K, LEAST_BOOST, LEAST_K, MOST_K, MOST_QUERY_CONTEXTS,
+    Boost, DEFAULT_BOOST, LEAST_BOOST, LEAST_K, MOST_K, MOST_QUERY_CONTEXTS, limits_are_exact,
 };
 pub use query::{Query, QueryError};
 pub use query_context::{BoostError, QueryContext};
-
-#[cfg(test)]
-mod tests;

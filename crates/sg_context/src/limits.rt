@@ -1,4 +1,6 @@
 //! The limits and defaults of queries. The greatest boost stands with the greatest weight.
+ghost use Rattle.sg_context.specs.Limits.{AreLimits};
+
 /// What a weight is multiplied by, from `LEAST_BOOST` to `MOST_BOOST`.
 pub type Boost = u32;
 
@@ -17,5 +19,7 @@ pub const LEAST_K: u32 = 1;
 /// The most rows that a query asks for.
 pub const MOST_K: u32 = 1_000;
 
-/// The rows of a query that gives no number.
-pub const DEFAULT_K: u32 = 5;
+/// Each limit and default is the number that is documented.
+pub fn limits_are_exact()
+    ensures { AreLimits }
+{}

@@ -1,4 +1,4 @@
-//! Queries.
+//! What is searched for, and why parts make no query.
 ghost use Rattle.std.specs.Prelude.{◌≡◌, IfErr, IfOk};
 ghost use Rattle.sg_context.specs.Queries.{IsQuery, RefusesQuery};
 

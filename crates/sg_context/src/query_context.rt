@@ -1,4 +1,4 @@
-//! Query contexts.
+//! Which contexts count in a query, and how much.
 ghost use Rattle.std.specs.Prelude.{◌≡◌, IfErr, IfOk};
 ghost use Rattle.sg_context.specs.Boosts.{IsBoost, matches};
 

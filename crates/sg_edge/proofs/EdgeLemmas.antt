@@ -1,6 +1,7 @@
 -- Bytes in front of others and behind them, as pieces join.
 use Rattle.std.proofs.Common.{◌≡◌, ℕ, ◌+◌, List, ◌++◌, take, drop, Option, Some, None}
 use Rattle.std.proofs.Common.{refl, sym, ap, append_assoc, arith}
+use Rattle.std.proofs.lemmas.Bool.Decides.{nat_tests}
 use Rattle.std.proofs.lemmas.List.{take-append-drop, drop-drop}
 use Rattle.sg_edge.specs.Edge.{in_front, behind, Rose, Stayed}
 
@@ -24,4 +25,5 @@ drop-moved bytes piece at n moved =
 
 -- a count that stayed didn't rise
 pub stayed-rose : (before now : ℕ) → Stayed before now → Rose before now → ⊥
-stayed-rose before now stayed rose = omega (arith, stayed.same, stayed.below, rose)
+stayed-rose before now stayed rose =
+    grind (arith, nat_tests, stayed.same, stayed.below, rose)

@@ -2,10 +2,10 @@
 use Rattle.std.specs.Prelude.{ℕ, Bool}
 
 -- how many faults the reader met, and whether it ended
-pub record SourceOverReader : Type 0 where
+pub record PlainStdSource : Type 0 where
   pub faults : ℕ
   pub ended : Bool
 
 -- how many faults the writer met
-pub record SinkOverWriter : Type 0 where
+pub record PlainStdSink : Type 0 where
   pub faults : ℕ

@@ -1,12 +1,11 @@
 //! A sink that keeps its bytes in memory.
 ghost use Rattle.std.specs.Prelude.{◌≡◌, ◌≤◌, ◌↔◌, [], Some};
 ghost use Rattle.std.specs.Prelude.{length, take, Contains, IfOk, IsErrOf, OnErr};
-ghost use Rattle.sg_edge.specs.Edge.{counted, behind};
+ghost use Rattle.sg_edge.specs.Edge.{next_count, behind};
 ghost use Rattle.sg_edge.specs.Puts.{PutCause};
 ghost use Rattle.sg_edge.specs.MemorySinks.{IsAtNextCall};
 
 use crate::sink::{PutError, Sink};
-use std::alloc::Global;
 use std::marker::Model;
 
 /// A sink that keeps its bytes in memory, and of which a listed call fails.
@@ -19,9 +18,9 @@ pub struct MemorySink {
 }
 
 impl Model for MemorySink {
-    ghost use Rattle.sg_edge.specs.MemorySinks.{SinkInMemory};
+    ghost use Rattle.sg_edge.specs.MemorySinks.{PlainMemorySink};
 
-    ghost Value = { SinkInMemory };
+    ghost Value = { PlainMemorySink };
 
     ghost view = { λ s. record {
       given = s.bytes.items;
@@ -33,11 +32,11 @@ impl Model for MemorySink {
 
 impl MemorySink {
     /// A sink with nothing in it. `fails` lists the calls of `put` that fail, counted from 1.
-    pub fn new(alloc: Global, fails: Vec<u64>) -> MemorySink
+    pub fn new(fails: Vec<u64>) -> MemorySink
         ensures { result ≡ record { given = []; fails = fails.items; calls = 0; faults = 0 } }
     {
         MemorySink {
-            bytes: Vec::new(alloc),
+            bytes: Vec::new(*fails.allocator()),
             fails,
             calls: 0,
             faults: 0,
@@ -68,7 +67,7 @@ impl Sink for MemorySink {
 
         // Which calls fail, and how many bytes the others move.
         ensures failed { IsErrOf result PutError.Failed
-            ↔ Contains self.old.fails (counted self.old.calls) }
+            ↔ Contains self.old.fails (next_count self.old.calls) }
         ensures exact { IfOk result (λ n. n ≡ length piece.now) }
         ensures next { IsAtNextCall self.old self.new }
     {

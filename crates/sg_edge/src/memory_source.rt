@@ -1,7 +1,7 @@
 //! A source whose bytes stand in memory.
 ghost use Rattle.std.specs.Prelude.{◌≡◌, ◌≤◌, ◌<◌, ◌↔◌, Some, [], false};
 ghost use Rattle.std.specs.Prelude.{length, take, Contains, IfOk, IsErr, OnErr};
-ghost use Rattle.sg_edge.specs.Edge.{counted, in_front, is_end, EndsHonestly, TakeCause};
+ghost use Rattle.sg_edge.specs.Edge.{next_count, in_front, is_end, EndCause, TakeCause};
 ghost use Rattle.sg_edge.specs.MemorySources.{through_line_feed, next_bytes, IsAtNextCall};
 
 use crate::line_feeds::line_feed_at;
@@ -23,9 +23,9 @@ pub struct MemorySource {
 impl Model for MemorySource {
     ghost use Rattle.std.specs.Prelude.{◌≤◌, drop};
     ghost use Rattle.std.specs.Vec.{vec_len};
-    ghost use Rattle.sg_edge.specs.MemorySources.{SourceInMemory};
+    ghost use Rattle.sg_edge.specs.MemorySources.{PlainMemorySource};
 
-    ghost Value = { SourceInMemory };
+    ghost Value = { PlainMemorySource };
 
     ghost view = { λ s. record {
       left = drop s.at s.bytes.items;
@@ -116,13 +116,13 @@ impl Source for MemorySource {
         ensures ok { IfOk result
             (λ n. Some self.old.left ≡ in_front (take n into.new) (Some self.new.left)) }
         ensures err { OnErr result (Some self.new.left ≡ Some self.old.left) }
-        ensures zero { EndsHonestly (Some self.new.left) (length into.new) result }
+        ensures zero { EndCause (Some self.new.left) (length into.new) result }
         ensures ended { 0 < length into.new → self.new.ended ≡ is_end result }
         ensures unchanged { length into.new ≡ 0 → self.new.ended ≡ self.old.ended }
         ensures cause { TakeCause self.old.faults self.new.faults result }
 
         // Which calls fail, and how many bytes the others move.
-        ensures failed { IsErr result ↔ Contains self.old.fails (counted self.old.calls) }
+        ensures failed { IsErr result ↔ Contains self.old.fails (next_count self.old.calls) }
         ensures exact { IfOk result
             (λ n. n ≡ length (next_bytes self.old.by_line (length into.new) self.old.left)) }
         ensures next { IsAtNextCall self.old self.new }

@@ -1,7 +1,7 @@
 //! Where bytes come from.
 ghost use Rattle.std.specs.Prelude.{◌≡◌, ◌≤◌, ◌<◌, ℕ, List, Option, Bool};
 ghost use Rattle.std.specs.Prelude.{length, take, IfOk, OnErr};
-ghost use Rattle.sg_edge.specs.Edge.{in_front, is_end, EndsHonestly, TakeCause};
+ghost use Rattle.sg_edge.specs.Edge.{in_front, is_end, EndCause, TakeCause};
 
 use std::error::Error;
 use std::fmt;
@@ -38,7 +38,7 @@ pub trait Source {
         ensures err { OnErr result (left self.new ≡ left self.old) }
 
         // The end. A piece that is empty tells nothing of it.
-        ensures zero { EndsHonestly (left self.new) (length into.new) result }
+        ensures zero { EndCause (left self.new) (length into.new) result }
         ensures ended { 0 < length into.new → ended self.new ≡ is_end result }
         ensures unchanged { length into.new ≡ 0 → ended self.new ≡ ended self.old }
 

@@ -15,9 +15,9 @@ pub struct StdSink<W> {
 }
 
 impl<W> Model for StdSink<W> {
-    ghost use Rattle.sg_edge.specs.StdEnds.{SinkOverWriter};
+    ghost use Rattle.sg_edge.specs.StdEnds.{PlainStdSink};
 
-    ghost Value = { SinkOverWriter };
+    ghost Value = { PlainStdSink };
 
     ghost view = { λ s. record { faults = s.faults } };
 }

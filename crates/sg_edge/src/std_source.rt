@@ -15,9 +15,9 @@ pub struct StdSource<R> {
 }
 
 impl<R> Model for StdSource<R> {
-    ghost use Rattle.sg_edge.specs.StdEnds.{SourceOverReader};
+    ghost use Rattle.sg_edge.specs.StdEnds.{PlainStdSource};
 
-    ghost Value = { SourceOverReader };
+    ghost Value = { PlainStdSource };
 
     ghost view = { λ s. record { faults = s.faults; ended = s.ended } };
 }

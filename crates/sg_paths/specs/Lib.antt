@@ -1,4 +1,9 @@
+pub mod Limits
 pub mod Documents
 pub mod Operations
 pub mod LiveDocuments
 pub mod Paths
+pub mod AllPaths
+pub mod PathLaws
+pub mod Collected
+pub mod PathBounds

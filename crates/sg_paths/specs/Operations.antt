@@ -7,36 +7,36 @@ use Rattle.sg_paths.specs.declared.op.Op.TheVariants.{Add, Update, Delete}
 use Rattle.sg_paths.specs.Documents.{PlainDocument}
 
 -- what the index is asked to do
-pub data Operation : Type 0 where
-  adds : PlainDocument → Operation
-  updates : PlainDocument → Operation
-  deletes : List ℕ → Operation
+pub data PlainOp : Type 0 where
+  adds : PlainDocument → PlainOp
+  updates : PlainDocument → PlainOp
+  deletes : List ℕ → PlainOp
 
 -- an `Op` as plain data
-abbrev pub operation_of : Op → Operation
-operation_of (Add document) = adds document
-operation_of (Update document) = updates document
-operation_of (Delete id) = deletes id
+abbrev pub plain_op : Op → PlainOp
+plain_op (Add document) = adds document
+plain_op (Update document) = updates document
+plain_op (Delete id) = deletes id
 
 -- the document that it adds, if it adds one
-abbrev pub added_document : Operation → Option PlainDocument
+abbrev pub added_document : PlainOp → Option PlainDocument
 added_document (adds document) = Some document
 added_document (updates document) = Some document
 added_document (deletes id) = None
 
 -- the id of the documents that it deletes, if it deletes any
-abbrev pub deleted_id : Operation → Option (List ℕ)
+abbrev pub deleted_id : PlainOp → Option (List ℕ)
 deleted_id (adds document) = None
 deleted_id (updates document) = Some document.id
 deleted_id (deletes id) = Some id
 
 -- a document with the number of the operation that added it
-pub record NumberedDocument : Type 0 where
+pub record PlainNumbered : Type 0 where
   pub seq : ℕ
   pub document : PlainDocument
 
 -- the documents that operations add, where the first of these has the number n
-abbrev pub documents_from : ℕ → List Operation → List NumberedDocument
+abbrev pub documents_from : ℕ → List PlainOp → List PlainNumbered
 documents_from n [] = []
 documents_from n (operation ∷ later) =
     option_to_list (option_map (λ d. record { seq = n; document = d }) (added_document operation))
@@ -46,4 +46,4 @@ documents_from n (operation ∷ later) =
 pub record PlainBatch : Type 0 where
   pub from : ℕ
   pub upto : ℕ
-  pub operations : List Operation
+  pub operations : List PlainOp

@@ -1,8 +1,8 @@
 -- The paths of a document: one for each pair of context and key. Source: Lucene's
 -- ContextSuggestField, whose contexts lead the key; which entry is kept is this project's own.
-use Rattle.std.specs.Prelude.{ℕ, Bool, not, nat_eq, nat_lt, ◌&&◌, ◌||◌, ◌+◌, List, [], ◌∷◌, ◌++◌}
-use Rattle.std.specs.Prelude.{map, filter, bytes_eq}
-use Rattle.std.specs.List.{list_any}
+use Rattle.std.specs.Prelude.{◌≡◌, ◌≤◌, ℕ, Bool, not, nat_eq, nat_lt, ◌&&◌, ◌||◌, ◌+◌, List, []}
+use Rattle.std.specs.Prelude.{◌∷◌, ◌++◌, map, filter, bytes_eq, Any, Contains}
+use Rattle.std.specs.List.{list_any, AllPairs}
 use Rattle.sg_paths.specs.Documents.{PlainSuggestion, PlainDocument}
 
 -- a key in a context, with the weight and the place from 0 of its suggestion
@@ -43,3 +43,22 @@ abbrev pub paths : PlainDocument → List PlainPath
 paths d =
     let entries = entries_from 0 d.suggestions in
     filter (λ q. not (list_any (λ p. is_kept_over p q) entries)) entries
+
+-- p has the context and the key of q and isn't worse: no lesser weight, and at the same weight no
+-- later place
+pub record IsNoWorse (p q : PlainPath) : Type 0 where
+  pub context : p.context ≡ q.context
+  pub key : p.key ≡ q.key
+  pub weight : q.weight ≤ p.weight
+  pub place : p.weight ≡ q.weight → p.place ≤ q.place
+
+-- No two paths of a document have one context and key.
+abbrev pub EachPairHasOnePath : Type 0
+EachPairHasOnePath =
+    (d : PlainDocument) → AllPairs (λ p q. p.context ≡ q.context → p.key ≡ q.key → ⊥) (paths d)
+
+-- Each entry of a document has a path that isn't worse.
+abbrev pub EachEntryHasAPath : Type 0
+EachEntryHasAPath =
+    (d : PlainDocument) (q : PlainPath) → Contains (entries_from 0 d.suggestions) q
+    → Any (λ p. IsNoWorse p q) (paths d)

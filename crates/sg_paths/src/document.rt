@@ -1,11 +1,11 @@
-//! Documents.
+//! What is added and deleted as one, and why parts make no document.
 ghost use Rattle.std.specs.Prelude.{◌≡◌, IfErr, IfOk};
 ghost use Rattle.sg_paths.specs.Documents.{IsDocument, RefusesDocument, is_id};
 
 use crate::limits::{MOST_ID_BYTES, MOST_SUGGESTIONS};
 use crate::suggestion::Suggestion;
 use sg_base::{List, Text, saturated_u32};
-use std::alloc::{AllocError, Global};
+use std::alloc::AllocError;
 use std::error::Error;
 use std::fmt;
 use std::marker::Model;
@@ -61,17 +61,14 @@ pub fn is_id(text: &str) -> bool
     1 <= text.len() && text.len() <= MOST_ID_BYTES
 }
 
-fn copied_suggestions(
-    alloc: Global,
-    suggestions: &[Suggestion],
-) -> Result<Vec<Suggestion>, AllocError>
-    ensures { IfOk result (λ copies. copies.items ≡ suggestions.now) }
+fn copied_suggestions(suggestions: &List<Suggestion>) -> Result<List<Suggestion>, AllocError>
+    ensures { IfOk result (λ copies. copies.items ≡ suggestions.now.items) }
 {
-    let mut copies = Vec::new(alloc);
-    for suggestion in suggestions {
-        copies.push(suggestion.copy(alloc)?)?;
+    let mut copies = Vec::with_capacity(suggestions.allocator(), suggestions.items().len())?;
+    for suggestion in suggestions.items() {
+        copies.push(suggestion.copy()?)?;
     }
-    Ok(copies)
+    Ok(List::of(copies))
 }
 
 impl Document {
@@ -104,14 +101,11 @@ impl Document {
     }
 
     /// An equal document of its own.
-    pub fn copy(&self, alloc: Global) -> Result<Document, AllocError>
+    pub fn copy(&self) -> Result<Document, AllocError>
         ensures { IfOk result (λ d. d ≡ self.now) }
     {
-        let id = Text::of(alloc, self.id.as_str())?;
-        let suggestions = copied_suggestions(alloc, self.suggestions.items())?;
-        Ok(Document {
-            id,
-            suggestions: List::of(suggestions),
-        })
+        let id = self.id.copy()?;
+        let suggestions = copied_suggestions(&self.suggestions)?;
+        Ok(Document { id, suggestions })
     }
 }

@@ -1,7 +1,7 @@
 //! The live documents of a journal by the plain program, and what deletes and updates reach.
 ghost use Rattle.std.specs.Prelude.{◌≡◌, ◌++◌, map, length, OnOk, IfOk};
 ghost use Rattle.std.specs.List.{list_any};
-ghost use Rattle.sg_paths.specs.Operations.{operation_of};
+ghost use Rattle.sg_paths.specs.Operations.{plain_op};
 ghost use Rattle.sg_paths.specs.LiveDocuments.{deletes_id, live_documents, live_of};
 ghost use Rattle.sg_paths.specs.LiveDocuments.{ReachesEarlierDocumentsOnly};
 ghost use Rattle.sg_paths.specs.LiveDocuments.{LeavesItsOwnDocumentAlone};
@@ -11,7 +11,7 @@ use sg_base::Text;
 use std::alloc::{AllocError, Global};
 
 fn deletes(op: &Op, id: &Text) -> bool
-    ensures { result ≡ deletes_id id.now (operation_of op.now) }
+    ensures { result ≡ deletes_id id.now (plain_op op.now) }
 {
     match op.deleted_id() {
         Some(deleted) => id.as_str() == deleted,
@@ -20,7 +20,7 @@ fn deletes(op: &Op, id: &Text) -> bool
 }
 
 fn any_deletes(ops: &[Op], id: &Text) -> bool
-    ensures { result ≡ list_any (deletes_id id.now) (map operation_of ops.now) }
+    ensures { result ≡ list_any (deletes_id id.now) (map plain_op ops.now) }
 {
     for op in ops {
         if deletes(op, id) {
@@ -38,7 +38,7 @@ fn add_if_live(
     later: &[Op],
 ) -> Result<(), AllocError>
     ensures { OnOk result (live.new.items ≡ live.old.items
-        ++ live_of seq (operation_of op.now) (map operation_of later.now)) }
+        ++ live_of seq (plain_op op.now) (map plain_op later.now)) }
 {
     let Some(document) = op.document() else {
         return Ok(());
@@ -48,7 +48,7 @@ fn add_if_live(
     }
     live.push(Numbered {
         seq,
-        document: document.copy(alloc)?,
+        document: document.copy()?,
     })?;
     Ok(())
 }
@@ -56,7 +56,7 @@ fn add_if_live(
 /// The live documents after all operations of a journal, by number, copied: in quadratic time.
 pub fn live_documents_of(alloc: Global, journal: &[Op]) -> Result<Vec<Numbered>, AllocError>
     ensures { IfOk result (λ live. live.items
-        ≡ live_documents (map operation_of journal.now) (length journal.now)) }
+        ≡ live_documents (map plain_op journal.now) (length journal.now)) }
 {
     let mut live = Vec::new(alloc);
     for (i, op) in journal.iter().enumerate() {

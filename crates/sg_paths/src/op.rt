@@ -1,10 +1,11 @@
-//! Operations.
-ghost use Rattle.std.specs.Prelude.{◌≡◌, option_map};
+//! What the index is asked to do, in batches, and documents with their numbers.
+ghost use Rattle.std.specs.Prelude.{◌≡◌, IfOk, option_map};
 ghost use Rattle.std.specs.Option.{option_copied};
-ghost use Rattle.sg_paths.specs.Operations.{operation_of, added_document, deleted_id};
+ghost use Rattle.sg_paths.specs.Operations.{plain_op, added_document, deleted_id};
 
 use crate::document::Document;
 use sg_base::{List, Text};
+use std::alloc::AllocError;
 use std::marker::Model;
 
 /// What the index is asked to do. A delete and an update reach the documents with the id that were
@@ -20,7 +21,7 @@ pub enum Op {
 impl Op {
     /// The document that it adds, if it adds one.
     pub fn document(&self) -> Option<&Document>
-        ensures { option_copied result ≡ added_document (operation_of self.now) }
+        ensures { option_copied result ≡ added_document (plain_op self.now) }
     {
         match self {
             Op::Add(document) => Some(document),
@@ -31,7 +32,7 @@ impl Op {
 
     /// The id of the documents that it deletes, if it deletes any.
     pub fn deleted_id(&self) -> Option<&str>
-        ensures { option_map (λ id. id.now) result ≡ deleted_id (operation_of self.now) }
+        ensures { option_map (λ id. id.now) result ≡ deleted_id (plain_op self.now) }
     {
         match self {
             Op::Add(_) => None,
@@ -53,14 +54,14 @@ pub struct Batch {
 
 impl Model for Batch {
     ghost use Rattle.std.specs.Prelude.{map};
-    ghost use Rattle.sg_paths.specs.Operations.{PlainBatch, operation_of};
+    ghost use Rattle.sg_paths.specs.Operations.{PlainBatch, plain_op};
 
     ghost Value = { PlainBatch };
 
     ghost view = { λ b. record {
       from = b.from;
       upto = b.upto;
-      operations = map operation_of b.ops.items;
+      operations = map plain_op b.ops.items;
     } };
 }
 
@@ -72,9 +73,21 @@ pub struct Numbered {
 }
 
 impl Model for Numbered {
-    ghost use Rattle.sg_paths.specs.Operations.{NumberedDocument};
+    ghost use Rattle.sg_paths.specs.Operations.{PlainNumbered};
 
-    ghost Value = { NumberedDocument };
+    ghost Value = { PlainNumbered };
 
     ghost view = { λ n. record { seq = n.seq; document = n.document } };
+}
+
+impl Numbered {
+    /// An equal document of its own, with the same number.
+    pub fn copy(&self) -> Result<Numbered, AllocError>
+        ensures { IfOk result (λ n. n ≡ self.now) }
+    {
+        Ok(Numbered {
+            seq: self.seq,
+            document: self.document.copy()?,
+        })
+    }
 }

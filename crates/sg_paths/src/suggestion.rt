@@ -1,10 +1,10 @@
-//! Suggestions.
+//! What is suggested, and why parts make no suggestion.
 ghost use Rattle.std.specs.Prelude.{◌≡◌, IfErr, IfOk};
 ghost use Rattle.sg_paths.specs.Documents.{IsSuggestion, RefusesSuggestion};
 
 use crate::limits::{MOST_CONTEXTS, MOST_TEXT_BYTES};
 use sg_base::{Context, Key, List, MOST_WEIGHT, Text, Weight, saturated_u32};
-use std::alloc::{AllocError, Global};
+use std::alloc::AllocError;
 use std::error::Error;
 use std::fmt;
 use std::marker::Model;
@@ -66,14 +66,14 @@ impl Model for Suggestion {
     }) };
 }
 
-fn copied_contexts(alloc: Global, contexts: &[Context]) -> Result<Vec<Context>, AllocError>
-    ensures { IfOk result (λ copies. copies.items ≡ contexts.now) }
+fn copied_contexts(contexts: &List<Context>) -> Result<List<Context>, AllocError>
+    ensures { IfOk result (λ copies. copies.items ≡ contexts.now.items) }
 {
-    let mut copies = Vec::new(alloc);
-    for context in contexts {
-        copies.push(context.copy(alloc)?)?;
+    let mut copies = Vec::with_capacity(contexts.allocator(), contexts.items().len())?;
+    for context in contexts.items() {
+        copies.push(context.copy()?)?;
     }
-    Ok(copies)
+    Ok(List::of(copies))
 }
 
 impl Suggestion {
@@ -124,17 +124,17 @@ impl Suggestion {
     }
 
     /// An equal suggestion of its own.
-    pub fn copy(&self, alloc: Global) -> Result<Suggestion, AllocError>
+    pub fn copy(&self) -> Result<Suggestion, AllocError>
         ensures { IfOk result (λ s. s ≡ self.now) }
     {
-        let text = Text::of(alloc, self.text.as_str())?;
-        let key = self.key.copy(alloc)?;
-        let contexts = copied_contexts(alloc, self.contexts.items())?;
+        let text = self.text.copy()?;
+        let key = self.key.copy()?;
+        let contexts = copied_contexts(&self.contexts)?;
         Ok(Suggestion {
             text,
             key,
             weight: self.weight,
-            contexts: List::of(contexts),
+            contexts,
         })
     }
 }

@@ -6,8 +6,8 @@ use Rattle.sg_analysis.proofs.KeyLemmas.{joined_text-key_bytes}
 use Rattle.sg_analysis.proofs.TokenLemmas.{joined_tokens-empty}
 use Rattle.sg_analysis.proofs.analyzer.key_of_tokens.Goals as goal
 
-pub returns-then-is_empty-clause-refused : goal.returns-then-is_empty-clause-refused
-returns-then-is_empty-clause-refused c =
+pub returns-then-is_empty-clause-given : goal.returns-then-is_empty-clause-given
+returns-then-is_empty-clause-given c =
     rw (c.if-cut.true, ← joined_tokens-empty c.args.separators _, ← c.in_ok-joined.ensures)
     (grind (arith, nat_tests, common_steps))
 

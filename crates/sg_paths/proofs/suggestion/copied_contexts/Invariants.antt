@@ -3,4 +3,4 @@ use Rattle.std.proofs.Common.{◌≡◌, take}
 use Rattle.sg_paths.proofs.suggestion.copied_contexts.Given as goal
 
 abbrev pub invariant-loop-context : goal.invariant-loop-context
-invariant-loop-context l = l.copies.items ≡ take l.context-index l.contexts
+invariant-loop-context l = l.copies.items ≡ take l.context-index l.contexts.items

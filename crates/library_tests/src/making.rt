@@ -1,0 +1,71 @@
+//! Values for tests, from short texts.
+
+use sg_base::{Bytes, Context, Key, Text};
+use sg_context::{Query, QueryContext};
+use sg_paths::{Document, Suggestion};
+use std::alloc::Global;
+use std::test::Fail;
+
+pub fn key_of(alloc: Global, spelled: &str) -> Result<Key, Fail> {
+    Ok(Key::of(Bytes::of(alloc, spelled.as_bytes())?)?)
+}
+
+fn contexts_of(alloc: Global, spelled: &str) -> Result<Vec<Context>, Fail> {
+    let mut contexts = Vec::new(alloc);
+    for name in spelled.split(',') {
+        contexts.push(Context::new(alloc, name)?)?;
+    }
+    Ok(contexts)
+}
+
+/// A suggestion: its key, `:`, its weight and, behind `@`, its contexts.
+pub fn suggestion_of(alloc: Global, spelled: &str) -> Result<Suggestion, Fail> {
+    let (key, rest) = spelled.split_once(':').ok_or("no weight")?;
+    let (weight, contexts) = match rest.split_once('@') {
+        Some((weight, contexts)) => (weight, contexts_of(alloc, contexts)?),
+        None => (rest, Vec::new(alloc)),
+    };
+    let text = Text::of(alloc, key)?;
+    let weight = weight.parse::<u32>()?;
+    Ok(Suggestion::new(text, key_of(alloc, key)?, weight, contexts)?)
+}
+
+/// A document of suggestions with blanks between them.
+pub fn document_of(alloc: Global, id: &str, spelled: &str) -> Result<Document, Fail> {
+    let mut suggestions = Vec::new(alloc);
+    for word in spelled.split_whitespace() {
+        suggestions.push(suggestion_of(alloc, word)?)?;
+    }
+    Ok(Document::new(Text::of(alloc, id)?, suggestions)?)
+}
+
+fn query_context_of(alloc: Global, spelled: &str) -> Result<QueryContext, Fail> {
+    let (name, boost) = spelled.split_once('=').ok_or("no boost")?;
+    let boost = boost.parse::<u32>()?;
+    Ok(match name.strip_suffix('*') {
+        Some(beginning) => QueryContext::new(Context::new(alloc, beginning)?, boost, true)?,
+        None => QueryContext::new(Context::new(alloc, name)?, boost, false)?,
+    })
+}
+
+/// Query contexts with blanks between them: `x=2` has the boost 2, and `x*=2` matches what begins
+/// with `x`.
+pub fn asked_of(alloc: Global, spelled: &str) -> Result<Vec<QueryContext>, Fail> {
+    let mut asked = Vec::new(alloc);
+    for word in spelled.split_whitespace() {
+        asked.push(query_context_of(alloc, word)?)?;
+    }
+    Ok(asked)
+}
+
+/// A query: its prefix, where `.` is the empty one, its number of rows and its contexts.
+pub fn query_of(alloc: Global, spelled: &str) -> Result<Query, Fail> {
+    let (prefix, rest) = spelled.split_once(' ').ok_or("no number of rows")?;
+    let (k, contexts) = match rest.split_once(' ') {
+        Some((k, contexts)) => (k, contexts),
+        None => (rest, ""),
+    };
+    let prefix = if prefix == "." { "" } else { prefix };
+    let asked = asked_of(alloc, contexts)?;
+    Ok(Query::new(key_of(alloc, prefix)?, asked, k.parse::<u32>()?)?)
+}
