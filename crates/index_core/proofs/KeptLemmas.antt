@@ -1,67 +1,124 @@
--- The fields after each call: they keep their facts, and their record is what the call's definition
--- says.
-use Rattle.std.proofs.Common.{◌≡◌, ℕ, ◌+◌, ◌-◌, ◌<◌, ◌≤◌, false, nat_eq, List, [], ◌∷◌}
-use Rattle.std.proofs.Common.{◌++◌, length, take, drop, refl, sym, ◌∙◌, ap, arith}
-use Rattle.std.specs.Prelude.{if◌then◌else◌}
+-- The store after each step on the buffer: it keeps its facts, and its record is what the call's
+-- definition says.
+use Rattle.std.proofs.Common.{◌≡◌, ℕ, ◌+◌, ◌-◌, ◌<◌, ◌≤◌, Bool, true, false, nat_eq, List, [], ◌∷◌}
+use Rattle.std.proofs.Common.{◌++◌, length, take, drop, map, refl, sym, ◌∙◌, ap, subst, arith}
+use Rattle.std.specs.Prelude.{if◌then◌else◌, nat_lt}
 use Rattle.std.specs.List.{filter_map}
+use Rattle.std.proofs.lemmas.Bool.Decides.{nat_tests}
 use Rattle.std.proofs.lemmas.List.{append_assoc, append-nil, take-append-le, length-append}
-use Rattle.std.proofs.lemmas.List.{length-map, map-append, take_at, drop_at}
+use Rattle.std.proofs.lemmas.List.{map-append, take_at, drop_at}
 use Rattle.std.proofs.lemmas.List.Elements.{filter_map-append}
 use Rattle.std.proofs.lemmas.Grind.{flat_map-append}
-use Rattle.sg_paths.specs.Operations.{Operation}
-use Rattle.index_core.specs.declared.limits.TheConstants.{MOST_OPERATIONS, MOST_BUFFERED}
-use Rattle.index_core.specs.Histories.{accept, freeze, Record, View, accepted}
-use Rattle.index_core.specs.Histories.{frozen, buffered, drawn_generation, next_generation}
-use Rattle.index_core.specs.Histories.{begun_view, begun_views, ended_view}
+use Rattle.sg_paths.specs.Operations.{PlainOp, PlainBatch}
+use Rattle.index_core.specs.declared.limits.TheConstants.{MOST_OPERATIONS, BATCH_OPERATIONS}
+use Rattle.index_core.specs.Histories.{accept, freeze, Record, View, accepted, frozen, drawn}
+use Rattle.index_core.specs.Histories.{drawn_generation, begun_view, begun_views, ended_view}
+use Rattle.index_core.specs.Records.{with_event, buffered, next_generation}
 use Rattle.index_core.specs.LegalHistories.{IsLegalNext}
-use Rattle.index_core.specs.OpenViews.{PlainPiece, operations_of, AreNumberedFrom}
-use Rattle.index_core.specs.OpenViews.{piece_of, frozen_piece, frozen_pieces}
-use Rattle.index_core.specs.Calls.{with_event, with_operation, after_accept, after_freeze}
-use Rattle.index_core.specs.Representation.{Kept, record_of, AreFields, IsKept}
+use Rattle.index_core.specs.OpenViews.{PlainPiece, operations_of, AreNumberedFrom, piece_of}
+use Rattle.index_core.specs.OpenViews.{frozen_piece, frozen_pieces}
+use Rattle.index_core.specs.Calls.{with_operation, after_accept, after_freeze}
+use Rattle.index_core.specs.Fields.{Stored, record_of, AreFields, IsKept, batched, with_places}
+use Rattle.index_core.specs.Fields.{with_closed, accepting, accepting_one, freezing, next_batch}
+use Rattle.index_core.specs.Fields.{next_piece}
 use Rattle.index_core.proofs.HistoryLemmas.{skips, accepted-skip, accepted-more, frozen-skip}
 use Rattle.index_core.proofs.HistoryLemmas.{frozen-more, merges-none}
 use Rattle.index_core.proofs.LegalLemmas.{AreLegal, are_legal, legal_more}
 use Rattle.index_core.proofs.ViewLemmas.{open_views-skip}
 
 -- the accepted operations are the frozen ones and the buffered ones
-pub counted : (k : Kept) → length (record_of k).journal ≡ accepted k.history → AreFields k
+pub counted : (k : Stored) → length (record_of k).journal ≡ accepted k.history → AreFields k
     → accepted k.history ≡ k.frozen_count + length k.buffer
 counted k numbered fields =
     omega (
       arith,
       numbered,
-      length-append (operations_of k.pieces) k.buffer,
+      length-append (batched k.batches) k.buffer,
       fields.frozen_operations,
     )
 
--- ---- one operation more
+-- how many are buffered
+pub buffered_is : (k : Stored) → length (record_of k).journal ≡ accepted k.history → AreFields k
+    → buffered (record_of k) ≡ length k.buffer
+buffered_is k numbered fields =
+    omega (arith, counted k numbered fields, fields.frozen_upto_last)
 
--- the fields with one operation more
-abbrev pub accepting : Kept → ℕ → Operation → ℕ → Kept
-accepting k caller operation places = record k {
-  history = k.history ++ accept caller (k.frozen_count + length k.buffer + 1) ∷ [];
-  buffer = k.buffer ++ operation ∷ [];
-  places = places;
+-- neither room nor closing changes a fact
+pub with_room : {k : Stored} → IsKept k → (closed : Bool) (places : ℕ) → k.places ≤ places
+    → IsKept (with_closed closed (with_places places k))
+with_room {k} kept closed places more =
+    let fields = kept.fields in
+    record {
+      legal = kept.legal;
+      fields = record {
+        unmerged = fields.unmerged;
+        generations = fields.generations;
+        of_batches = fields.of_batches;
+        numbered = fields.numbered;
+        frozen_upto_last = fields.frozen_upto_last;
+        frozen_operations = fields.frozen_operations;
+        made_by_freezes = fields.made_by_freezes;
+        drawn_generations = fields.drawn_generations;
+        few_drawn = fields.few_drawn;
+        most_operations = fields.most_operations;
+        begun = fields.begun;
+        begun_numbers = fields.begun_numbers;
+        few_begun = fields.few_begun;
+        ended_were_begun = fields.ended_were_begun;
+        open_views_count = fields.open_views_count;
+        most_open = fields.most_open;
+        room = omega (arith, fields.room, more);
+      };
+    }
+
+-- what holds before a full buffer is frozen
+pub record IsNear (k : Stored) : Type 0 where
+  pub legal : AreLegal (record_of k)
+  pub fields : AreFields k
+  pub few_buffered : length k.buffer ≤ BATCH_OPERATIONS
+
+pub near : {k : Stored} → IsKept k → IsNear k
+near {k} kept = record {
+  legal = are_legal (record_of k) kept.legal;
+  fields = kept.fields;
+  few_buffered =
+      omega (arith, buffered_is k kept.legal.numbered kept.fields, kept.legal.not_full);
 }
 
-pub fields_accept : (k : Kept) (caller : ℕ) (operation : Operation) (places : ℕ)
+pub kept_near : {k : Stored} → IsNear k → length k.buffer < BATCH_OPERATIONS → IsKept k
+kept_near {k} is less = record {
+  legal = record {
+    numbered = is.legal.numbered;
+    events = is.legal.events;
+    not_full = omega (arith, buffered_is k is.legal.numbered is.fields, less);
+  };
+  fields = is.fields;
+}
+
+-- ---- one operation more
+
+fields_accept : (k : Stored) (caller : ℕ) (operation : PlainOp)
     → AreFields k → k.frozen_count + length k.buffer < MOST_OPERATIONS
-    → length k.history + 1 + k.open_count ≤ places
-    → AreFields (accepting k caller operation places)
-fields_accept k caller operation places fields room places-enough =
+    → length k.history + 1 + k.open_count ≤ k.places
+    → AreFields (accepting caller operation k)
+fields_accept k caller operation fields room places-enough =
     let event = accept caller (k.frozen_count + length k.buffer + 1) in
     let begun : begun_views (k.history ++ event ∷ []) ≡ begun_views k.history =
     skips begun_view k.history event refl in
+    let drawn-same : drawn (k.history ++ event ∷ []) ≡ drawn k.history =
+    skips drawn_generation k.history event refl in
     let longer = length-append k.history (event ∷ []) in
     record {
       unmerged = merges-none 0 k.history event (λ n. refl) fields.unmerged;
-      generations = skips drawn_generation k.history event refl ∙ fields.generations;
+      generations = drawn-same ∙ fields.generations;
+      of_batches = fields.of_batches;
       numbered = fields.numbered;
       frozen_upto_last = frozen-skip k.history event refl ∙ fields.frozen_upto_last;
       frozen_operations = fields.frozen_operations;
-      made_by_freezes = λ more. skips (frozen_piece (operations_of k.pieces ++ more)) k.history
+      made_by_freezes = λ more. skips (frozen_piece (batched k.batches ++ more)) k.history
           event refl ∙ fields.made_by_freezes more;
-      few_pieces = fields.few_pieces;
+      drawn_generations = ap (λ (gs : List ℕ). length gs) drawn-same ∙ fields.drawn_generations;
+      few_drawn = fields.few_drawn;
       most_operations = omega (arith, room, length-append k.buffer (operation ∷ []));
       begun = ap (λ (vs : List View). length vs) begun ∙ fields.begun;
       begun_numbers = rw begun fields.begun_numbers;
@@ -74,82 +131,63 @@ fields_accept k caller operation places fields room places-enough =
       room = omega (arith, places-enough, longer);
     }
 
-legal_accept : (k : Kept) (caller : ℕ) (operation : Operation) (places : ℕ)
-    → IsKept k → k.frozen_count + length k.buffer < MOST_OPERATIONS
-    → AreLegal (record_of (accepting k caller operation places))
-legal_accept k caller operation places kept room =
-    let r = record_of k in
-    let event = accept caller (k.frozen_count + length k.buffer + 1) in
+added_is : (k : Stored) (caller : ℕ) (operation : PlainOp) → IsKept k
+    → with_operation caller operation (record_of k) ≡ record_of (accepting caller operation k)
+added_is k caller operation kept =
     let count = counted k kept.legal.numbered kept.fields in
-    let later = append_assoc (operations_of k.pieces) k.buffer (operation ∷ []) in
+    let later = append_assoc (batched k.batches) k.buffer (operation ∷ []) in
+    rw count (rw later refl)
+
+pub near_accept : {k : Stored} → IsKept k → (caller : ℕ) (operation : PlainOp)
+    → k.frozen_count + length k.buffer < MOST_OPERATIONS
+    → length k.history + 1 + k.open_count ≤ k.places
+    → IsNear (accepting caller operation k)
+near_accept {k} kept caller operation room enough =
+    let r = record_of k in
+    let r' = with_operation caller operation r in
+    let event = accept caller (accepted r.history + 1) in
+    let count = counted k kept.legal.numbered kept.fields in
     let next : IsLegalNext r event = record {
-      line = (omega (arith, count), omega (arith, room));
+      line = (refl, omega (arith, count, room));
       freezes_when_full = λ full. absurd (omega (arith, full, kept.legal.not_full));
     } in
-    legal_more r event (operations_of k.pieces ++ (k.buffer ++ operation ∷ []))
+    let legal : AreLegal r' = legal_more r event (r.journal ++ operation ∷ [])
     (are_legal r kept.legal) next
-    (λ n within. rw (← later) (take-append-le n r.journal (operation ∷ []) within))
-    (rw (accepted-more k.history caller (k.frozen_count + length k.buffer + 1))
-    (rw (← later)
-    (omega (arith, length-append r.journal (operation ∷ []), kept.legal.numbered))))
-
-pub kept_accept : (k : Kept) (caller : ℕ) (operation : Operation) (places : ℕ)
-    → IsKept k → k.frozen_count + length k.buffer < MOST_OPERATIONS
-    → length k.buffer + 1 < MOST_BUFFERED
-    → length k.history + 1 + k.open_count ≤ places
-    → IsKept (accepting k caller operation places)
-kept_accept k caller operation places kept room not-last places-enough =
-    let k' = accepting k caller operation places in
-    let event = accept caller (k.frozen_count + length k.buffer + 1) in
-    let legal = legal_accept k caller operation places kept room in
-    let fields = fields_accept k caller operation places kept.fields room places-enough in
+    (λ n within. take-append-le n r.journal (operation ∷ []) within)
+    (rw (accepted-more k.history caller (accepted r.history + 1))
+    (omega (arith, length-append r.journal (operation ∷ []), kept.legal.numbered))) in
+    let is = added_is k caller operation kept in
     record {
-      legal = record {
-        numbered = legal.numbered;
-        events = legal.events;
-        not_full = omega (
-          arith,
-          counted k' legal.numbered fields,
-          fields.frozen_upto_last,
-          length-append k.buffer (operation ∷ []),
-          not-last,
-        );
-      };
-      fields = fields;
+      legal = subst AreLegal is legal;
+      fields = fields_accept k caller operation kept.fields room enough;
+      few_buffered = omega (
+        arith,
+        length-append k.buffer (operation ∷ []),
+        buffered_is k kept.legal.numbered kept.fields,
+        kept.legal.not_full,
+      );
     }
 
 -- ---- what is buffered becomes a batch
 
--- the batch of what is buffered, under the next generation
-abbrev pub next_piece : Kept → PlainPiece
-next_piece k = record {
-  generation = length k.pieces + 1;
-  batch = record {
-    from = k.frozen_count + 1;
-    upto = k.frozen_count + length k.buffer;
-    operations = k.buffer;
-  };
-}
+batched-next : (k : Stored) (bs : List PlainBatch)
+    → batched (bs ++ next_batch k ∷ []) ≡ batched bs ++ k.buffer
+batched-next k bs =
+    flat_map-append (λ (b : PlainBatch). b.operations) bs (next_batch k ∷ [])
+    ∙ ap (λ (more : List PlainOp). batched bs ++ more) (append-nil k.buffer)
 
--- the fields with that batch
-abbrev pub freezing : Kept → ℕ → ℕ → Kept
-freezing k caller places = record k {
-  history = k.history
-      ++ freeze caller (length k.pieces + 1) (k.frozen_count + 1)
-      (k.frozen_count + length k.buffer) ∷ [];
-  pieces = k.pieces ++ next_piece k ∷ [];
-  buffer = [];
-  frozen_count = k.frozen_count + length k.buffer;
-  places = places;
-}
+-- the operations of pieces are those of their batches
+pub batched-pieces : (pieces : List PlainPiece)
+    → operations_of pieces ≡ batched (map (λ piece. piece.batch) pieces)
+batched-pieces [] = refl
+batched-pieces (piece ∷ pieces) =
+    ap (λ (ops : List PlainOp). piece.batch.operations ++ ops) (batched-pieces pieces)
 
-operations-next : (k : Kept) (pieces : List PlainPiece)
-    → operations_of (pieces ++ next_piece k ∷ []) ≡ operations_of pieces ++ k.buffer
-operations-next k pieces =
-    flat_map-append (λ (piece : PlainPiece). piece.batch.operations) pieces (next_piece k ∷ [])
-    ∙ ap (λ (more : List Operation). operations_of pieces ++ more) (append-nil k.buffer)
+-- the pieces of a store hold what its batches hold
+pub pieces_hold : (k : Stored) → AreFields k → operations_of k.pieces ≡ batched k.batches
+pieces_hold k fields = batched-pieces k.pieces ∙ ap batched fields.of_batches
 
-numbered-next : (k : Kept) (n : ℕ) (pieces : List PlainPiece) → AreNumberedFrom n pieces
+numbered-next : (k : Stored) (n : ℕ) (pieces : List PlainPiece) → AreNumberedFrom n pieces
     → n + length (operations_of pieces) ≡ k.frozen_count + 1
     → AreNumberedFrom n (pieces ++ next_piece k ∷ [])
 numbered-next k n [] numbered is = (omega (arith, is), omega (arith, is), tt)
@@ -160,85 +198,93 @@ numbered-next k n (piece ∷ pieces) numbered is = (
       (omega (arith, is, length-append piece.batch.operations (operations_of pieces))),
 )
 
--- the generation that a freeze draws
-next_is : (k : Kept) → AreFields k → next_generation k.history ≡ length k.pieces + 1
-next_is k fields =
-    ap (λ (n : ℕ). n + 1)
-    (ap (λ (gs : List ℕ). length gs) fields.generations
-    ∙ length-map k.pieces (λ (piece : PlainPiece). piece.generation))
+same_journal : (k : Stored) (caller : ℕ)
+    → (record_of (freezing caller k)).journal ≡ (record_of k).journal
+same_journal k caller =
+    append-nil (batched (k.batches ++ next_batch k ∷ [])) ∙ batched-next k k.batches
 
-same_journal : (k : Kept) (caller places : ℕ)
-    → (record_of (freezing k caller places)).journal ≡ (record_of k).journal
-same_journal k caller places =
-    append-nil (operations_of (k.pieces ++ next_piece k ∷ [])) ∙ operations-next k k.pieces
+-- the generation that a freeze draws
+next_is : (k : Stored) → AreFields k → next_generation (record_of k) ≡ k.drawn_count + 1
+next_is k fields = ap (λ (n : ℕ). n + 1) fields.drawn_generations
 
 -- what is between the frozen operations and others
-batch-next : (frozen batch more : List Operation) (n : ℕ) → length frozen ≡ n
+batch-next : (frozen batch more : List PlainOp) (n : ℕ) → length frozen ≡ n
     → drop (n + 1 - 1) (take (n + length batch) (frozen ++ (batch ++ more))) ≡ batch
 batch-next frozen batch more n counted =
     let first : n + 1 - 1 ≡ n = omega arith in
     let all : take (n + length batch) (frozen ++ (batch ++ more)) ≡ frozen ++ batch =
-    ap (λ (ops : List Operation). take (n + length batch) ops)
+    ap (λ (ops : List PlainOp). take (n + length batch) ops)
     (sym (append_assoc frozen batch more))
     ∙ take_at (frozen ++ batch) more (n + length batch)
     (omega (arith, length-append frozen batch, counted)) in
     rw first (rw all (drop_at frozen batch n counted))
 
 -- the freeze makes that batch of the journal, whatever comes behind it
-pieces-next : (k : Kept) (caller : ℕ) (more : List Operation) → AreFields k
+pieces-next : (k : Stored) (caller : ℕ) (more : List PlainOp) → AreFields k
     → frozen_pieces (record {
       history = k.history
-          ++ freeze caller (length k.pieces + 1) (k.frozen_count + 1)
+          ++ freeze caller (k.drawn_count + 1) (k.frozen_count + 1)
           (k.frozen_count + length k.buffer) ∷ [];
-      journal = operations_of (k.pieces ++ next_piece k ∷ []) ++ more;
+      journal = batched (k.batches ++ next_batch k ∷ []) ++ more;
     })
     ≡ k.pieces ++ next_piece k ∷ []
 pieces-next k caller more fields =
-    let generation = length k.pieces + 1 in
+    let generation = k.drawn_count + 1 in
     let from = k.frozen_count + 1 in
     let upto = k.frozen_count + length k.buffer in
     let events = freeze caller generation from upto ∷ [] in
-    let journal = operations_of k.pieces ++ (k.buffer ++ more) in
-    ap (λ (ops : List Operation). filter_map (frozen_piece ops) (k.history ++ events))
-    (ap (λ (ops : List Operation). ops ++ more) (operations-next k k.pieces)
-    ∙ append_assoc (operations_of k.pieces) k.buffer more)
+    let journal = batched k.batches ++ (k.buffer ++ more) in
+    ap (λ (ops : List PlainOp). filter_map (frozen_piece ops) (k.history ++ events))
+    (ap (λ (ops : List PlainOp). ops ++ more) (batched-next k k.batches)
+    ∙ append_assoc (batched k.batches) k.buffer more)
     ∙ filter_map-append (frozen_piece journal) k.history events
     ∙ ap (λ (pieces : List PlainPiece). pieces
     ++ piece_of generation from upto (drop (from - 1) (take upto journal)) ∷ [])
     (fields.made_by_freezes (k.buffer ++ more))
-    ∙ ap (λ (ops : List Operation). k.pieces ++ piece_of generation from upto ops ∷ [])
-    (batch-next (operations_of k.pieces) k.buffer more k.frozen_count fields.frozen_operations)
+    ∙ ap (λ (ops : List PlainOp). k.pieces ++ piece_of generation from upto ops ∷ [])
+    (batch-next (batched k.batches) k.buffer more k.frozen_count fields.frozen_operations)
 
-pub fields_freeze : (k : Kept) (caller places : ℕ)
-    → AreFields k → 0 < length k.buffer → length k.history + 1 + k.open_count ≤ places
-    → AreFields (freezing k caller places)
-fields_freeze k caller places fields some places-enough =
+fields_freeze : (k : Stored) (caller : ℕ)
+    → AreFields k → 0 < length k.buffer → length k.history + 1 + k.open_count ≤ k.places
+    → AreFields (freezing caller k)
+fields_freeze k caller fields some places-enough =
     let upto = k.frozen_count + length k.buffer in
-    let event = freeze caller (length k.pieces + 1) (k.frozen_count + 1) upto in
+    let event = freeze caller (k.drawn_count + 1) (k.frozen_count + 1) upto in
     let begun : begun_views (k.history ++ event ∷ []) ≡ begun_views k.history =
     skips begun_view k.history event refl in
+    let drawn-is : drawn (k.history ++ event ∷ []) ≡ drawn k.history ++ (k.drawn_count + 1) ∷ [] =
+    filter_map-append drawn_generation k.history (event ∷ []) in
     let longer = length-append k.history (event ∷ []) in
-    let more_pieces = length-append k.pieces (next_piece k ∷ []) in
-    let operations = ap (λ (ops : List Operation). length ops) (operations-next k k.pieces) in
+    let operations = ap (λ (ops : List PlainOp). length ops) (batched-next k k.batches) in
     record {
       unmerged = merges-none 0 k.history event (λ n. refl) fields.unmerged;
       generations =
-          filter_map-append drawn_generation k.history (event ∷ [])
-          ∙ ap (λ (gs : List ℕ). gs ++ (length k.pieces + 1) ∷ []) fields.generations
+          drawn-is
+          ∙ ap (λ (gs : List ℕ). gs ++ (k.drawn_count + 1) ∷ []) fields.generations
           ∙ sym (map-append (λ (piece : PlainPiece). piece.generation) k.pieces
           (next_piece k ∷ []));
+      of_batches =
+          map-append (λ (piece : PlainPiece). piece.batch) k.pieces (next_piece k ∷ [])
+          ∙ ap (λ (bs : List PlainBatch). bs ++ next_batch k ∷ []) fields.of_batches;
       numbered = numbered-next k 1 k.pieces fields.numbered
-          (omega (arith, fields.frozen_operations));
-      frozen_upto_last =
-          frozen-more k.history caller (length k.pieces + 1) (k.frozen_count + 1) upto;
+          (omega (
+            arith,
+            fields.frozen_operations,
+            ap (λ (ops : List PlainOp). length ops) (pieces_hold k fields),
+          ));
+      frozen_upto_last = frozen-more k.history caller (k.drawn_count + 1) (k.frozen_count + 1) upto;
       frozen_operations = omega (
         arith,
         operations,
         fields.frozen_operations,
-        length-append (operations_of k.pieces) k.buffer,
+        length-append (batched k.batches) k.buffer,
       );
       made_by_freezes = λ more. pieces-next k caller more fields;
-      few_pieces = omega (arith, fields.few_pieces, some, more_pieces);
+      drawn_generations =
+          ap (λ (gs : List ℕ). length gs) drawn-is
+          ∙ length-append (drawn k.history) ((k.drawn_count + 1) ∷ [])
+          ∙ ap (λ (n : ℕ). n + 1) fields.drawn_generations;
+      few_drawn = omega (arith, fields.few_drawn, some);
       most_operations = omega (arith, fields.most_operations);
       begun = ap (λ (vs : List View). length vs) begun ∙ fields.begun;
       begun_numbers = rw begun fields.begun_numbers;
@@ -251,122 +297,106 @@ fields_freeze k caller places fields some places-enough =
       room = omega (arith, places-enough, longer);
     }
 
-pub kept_freeze : (k : Kept) (caller places : ℕ)
-    → AreLegal (record_of k) → AreFields k → 0 < length k.buffer
-    → length k.history + 1 + k.open_count ≤ places
-    → IsKept (freezing k caller places)
-kept_freeze k caller places legal fields some places-enough =
-    let r = record_of k in
-    let k' = freezing k caller places in
-    let upto = k.frozen_count + length k.buffer in
-    let event = freeze caller (length k.pieces + 1) (k.frozen_count + 1) upto in
-    let count = counted k legal.numbered fields in
-    let next : IsLegalNext r event = record {
-      line = (
-        sym (next_is k fields),
-        omega (arith, fields.frozen_upto_last),
-        omega (arith, count),
-        omega (arith, count, fields.frozen_upto_last, some),
-      );
-      freezes_when_full = λ full. refl;
-    } in
-    let journal = same_journal k caller places in
-    let later : AreLegal (record_of k') =
-    legal_more r event (record_of k').journal legal next
-    (λ n within. rw journal refl)
-    (rw (accepted-skip k.history event refl) (rw journal legal.numbered)) in
-    let fields' = fields_freeze k caller places fields some places-enough in
-    record {
-      legal = record {
-        numbered = later.numbered;
-        events = later.events;
-        not_full = omega (arith, counted k' later.numbered fields', fields'.frozen_upto_last);
-      };
-      fields = fields';
-    }
-
-pub buffered_is : (k : Kept) → length (record_of k).journal ≡ accepted k.history → AreFields k
-    → buffered k.history ≡ length k.buffer
-buffered_is k numbered fields =
-    omega (arith, counted k numbered fields, fields.frozen_upto_last)
-
 -- the definition's batch is that one
-frozen_is : (k : Kept) (caller places : ℕ)
+frozen_is : (k : Stored) (caller : ℕ)
     → length (record_of k).journal ≡ accepted k.history → AreFields k
     → with_event (record_of k)
-    (freeze caller (next_generation k.history) (frozen k.history + 1) (accepted k.history))
-    ≡ record_of (freezing k caller places)
-frozen_is k caller places numbered fields =
+    (freeze caller (next_generation (record_of k)) (frozen k.history + 1) (accepted k.history))
+    ≡ record_of (freezing caller k)
+frozen_is k caller numbered fields =
     let generation = next_is k fields in
     let last = fields.frozen_upto_last in
     let upto = counted k numbered fields in
-    let journal = same_journal k caller places in
+    let journal = same_journal k caller in
     rw generation (rw last (rw upto (rw journal refl)))
 
-pub after_freeze-some : (k : Kept) (caller places : ℕ)
-    → length (record_of k).journal ≡ accepted k.history → AreFields k → 0 < length k.buffer
-    → after_freeze caller (record_of k) ≡ record_of (freezing k caller places)
-after_freeze-some k caller places numbered fields some =
-    let count = buffered_is k numbered fields in
-    let test : nat_eq (buffered k.history) 0 ≡ false = grind (arith, count, some) in
-    rw test (frozen_is k caller places numbered fields)
+pub kept_freeze : {k : Stored} → IsNear k → (caller : ℕ) → 0 < length k.buffer
+    → length k.history + 1 + k.open_count ≤ k.places
+    → IsKept (freezing caller k)
+kept_freeze {k} is caller some enough =
+    let r = record_of k in
+    let fields = is.fields in
+    let numbered = is.legal.numbered in
+    let count = counted k numbered fields in
+    let event = freeze caller (next_generation r) (frozen k.history + 1) (accepted k.history) in
+    let next : IsLegalNext r event = record {
+      line = (refl, refl, refl, omega (arith, count, fields.frozen_upto_last, some));
+      freezes_when_full = λ full. refl;
+    } in
+    let legal : AreLegal (with_event r event) =
+    legal_more r event r.journal is.legal next (λ n within. refl)
+    (rw (accepted-skip k.history event refl) numbered) in
+    kept_near (record {
+      legal = subst AreLegal (frozen_is k caller numbered fields) legal;
+      fields = fields_freeze k caller fields some enough;
+      few_buffered = omega arith;
+    }) (omega arith)
+
+pub after_freeze-is : {k : Stored} → IsNear k → (caller : ℕ) → 0 < length k.buffer
+    → record_of (freezing caller k) ≡ after_freeze caller (record_of k)
+after_freeze-is {k} is caller some =
+    let count = buffered_is k is.legal.numbered is.fields in
+    let test : nat_eq (buffered (record_of k)) 0 ≡ false = grind (arith, count, some) in
+    rw test (sym (frozen_is k caller is.legal.numbered is.fields))
+
+-- ---- what the calls leave
 
 -- a full buffer is frozen
 abbrev settled : ℕ → Record → Record
-settled caller r = if nat_eq (buffered r.history) MOST_BUFFERED then after_freeze caller r else r
+settled caller r = if nat_eq (buffered r) BATCH_OPERATIONS then after_freeze caller r else r
 
-added_is : (k : Kept) (caller : ℕ) (operation : Operation) (places : ℕ) → IsKept k
-    → with_operation caller operation (record_of k)
-    ≡ record_of (accepting k caller operation places)
-added_is k caller operation places kept =
-    let count = counted k kept.legal.numbered kept.fields in
-    let later = append_assoc (operations_of k.pieces) k.buffer (operation ∷ []) in
-    rw count (rw later refl)
+-- what a step leaves
+pub record Leaves (k : Stored) (after : Record) : Type 0 where
+  pub kept : IsKept k
+  pub record_is : record_of k ≡ after
 
-pub after_accept-room : (k : Kept) (caller : ℕ) (operation : Operation) (places : ℕ)
-    → IsKept k → k.frozen_count + length k.buffer < MOST_OPERATIONS
-    → length k.buffer + 1 < MOST_BUFFERED
-    → length k.history + 1 + k.open_count ≤ places
-    → after_accept caller operation (record_of k)
-    ≡ record_of (accepting k caller operation places)
-after_accept-room k caller operation places kept room not-last places-enough =
-    let k' = accepting k caller operation places in
-    let kept' = kept_accept k caller operation places kept room not-last places-enough in
-    let count = buffered_is k' kept'.legal.numbered kept'.fields in
-    let test : nat_eq (buffered k'.history) MOST_BUFFERED ≡ false =
-    grind (arith, count, length-append k.buffer (operation ∷ []), not-last) in
-    ap (settled caller) (added_is k caller operation places kept) ∙ rw test refl
+pub freezes : {k : Stored} → IsKept k → (caller : ℕ) → 0 < length k.buffer
+    → length k.history + 1 + k.open_count ≤ k.places
+    → Leaves (freezing caller k) (after_freeze caller (record_of k))
+freezes {k} kept caller some enough = record {
+  kept = kept_freeze (near kept) caller some enough;
+  record_is = after_freeze-is (near kept) caller some;
+}
 
--- the fields with the last operation that the buffer has room for, frozen
-abbrev pub accepting_last : Kept → ℕ → Operation → ℕ → Kept
-accepting_last k caller operation places =
-    freezing (accepting k caller operation places) caller places
-
-pub kept_accept_last : (k : Kept) (caller : ℕ) (operation : Operation) (places : ℕ)
-    → IsKept k → k.frozen_count + length k.buffer < MOST_OPERATIONS
-    → length k.history + 2 + k.open_count ≤ places
-    → IsKept (accepting_last k caller operation places)
-kept_accept_last k caller operation places kept room places-enough =
-    let event = accept caller (k.frozen_count + length k.buffer + 1) in
-    kept_freeze (accepting k caller operation places) caller places
-    (legal_accept k caller operation places kept room)
-    (fields_accept k caller operation places kept.fields room (omega (arith, places-enough)))
-    (omega (arith, length-append k.buffer (operation ∷ [])))
-    (omega (arith, places-enough, length-append k.history (event ∷ [])))
-
-pub after_accept-last : (k : Kept) (caller : ℕ) (operation : Operation) (places : ℕ)
-    → IsKept k → k.frozen_count + length k.buffer < MOST_OPERATIONS
-    → length k.buffer + 1 ≡ MOST_BUFFERED
-    → length k.history + 2 + k.open_count ≤ places
-    → after_accept caller operation (record_of k)
-    ≡ record_of (accepting_last k caller operation places)
-after_accept-last k caller operation places kept room last places-enough =
-    let k' = accepting k caller operation places in
-    let legal = legal_accept k caller operation places kept room in
-    let fields =
-    fields_accept k caller operation places kept.fields room (omega (arith, places-enough)) in
+pub accepts : {k : Stored} → IsKept k → (caller : ℕ) (operation : PlainOp)
+    → k.frozen_count + length k.buffer < MOST_OPERATIONS
+    → length k.history + 2 + k.open_count ≤ k.places
+    → Leaves (accepting_one caller operation k) (after_accept caller operation (record_of k))
+accepts {k} kept caller operation room enough =
+    let k' = accepting caller operation k in
+    let is = near_accept kept caller operation room (omega (arith, enough)) in
     let more = length-append k.buffer (operation ∷ []) in
-    let full : buffered k'.history ≡ MOST_BUFFERED =
-    omega (arith, buffered_is k' legal.numbered fields, more, last) in
-    ap (settled caller) (added_is k caller operation places kept)
-    ∙ rw full (frozen_is k' caller places legal.numbered fields)
+    let longer = length-append k.history
+    (accept caller (k.frozen_count + length k.buffer + 1) ∷ []) in
+    let count = buffered_is k' is.legal.numbered is.fields in
+    let added = ap (settled caller) (added_is k caller operation kept) in
+    by_cases is more longer count added (nat_lt (length k.buffer + 1) BATCH_OPERATIONS) refl
+  where
+    k1 : Stored
+    k1 = accepting caller operation k
+
+    by_cases : IsNear k1
+        → length k1.buffer ≡ length k.buffer + 1 → length k1.history ≡ length k.history + 1
+        → buffered (record_of k1) ≡ length k1.buffer
+        → after_accept caller operation (record_of k) ≡ settled caller (record_of k1)
+        → (b : Bool) → nat_lt (length k.buffer + 1) BATCH_OPERATIONS ≡ b
+        → Leaves (if b then k1 else freezing caller k1)
+        (after_accept caller operation (record_of k))
+    by_cases is more longer count added true less =
+        let below : length k1.buffer < BATCH_OPERATIONS = grind (arith, nat_tests, less, more) in
+        let test : nat_eq (buffered (record_of k1)) BATCH_OPERATIONS ≡ false =
+        grind (arith, count, below) in
+        record {
+          kept = kept_near is below;
+          record_is = sym (added ∙ rw test refl);
+        }
+    by_cases is more longer count added false less =
+        let over : BATCH_OPERATIONS ≤ length k1.buffer = grind (arith, nat_tests, less, more) in
+        let full : buffered (record_of k1) ≡ BATCH_OPERATIONS =
+        omega (arith, count, over, is.few_buffered) in
+        let some : 0 < length k1.buffer = omega (arith, more) in
+        let test : nat_eq (buffered (record_of k1)) BATCH_OPERATIONS ≡ true = rw full refl in
+        record {
+          kept = kept_freeze is caller some (omega (arith, enough, longer));
+          record_is = after_freeze-is is caller some ∙ sym (added ∙ rw test refl);
+        }

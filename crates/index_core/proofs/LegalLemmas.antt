@@ -3,7 +3,7 @@ use Rattle.std.proofs.Common.{◌≡◌, ℕ, zero, suc, ◌<◌, ◌≤◌, ◌
 use Rattle.std.proofs.Common.{length, take, refl, sym, ◌∙◌, ap, subst, arith}
 use Rattle.std.specs.Prelude.{slice_get}
 use Rattle.std.proofs.lemmas.List.{take-append-le, take_all}
-use Rattle.sg_paths.specs.Operations.{Operation}
+use Rattle.sg_paths.specs.Operations.{PlainOp}
 use Rattle.index_core.specs.Histories.{HistoryEvent, Record, accepted}
 use Rattle.index_core.specs.LegalHistories.{IsLegal, IsLegalNext, first_events}
 use Rattle.index_core.proofs.HistoryLemmas.{accepted-take}
@@ -32,7 +32,7 @@ at_most_last (x ∷ history) last (suc k) event got =
     ]
 
 -- the first events of a longer record are those of the shorter one
-first_same : (r : Record) (last : HistoryEvent) (journal : List Operation) (k : ℕ)
+first_same : (r : Record) (last : HistoryEvent) (journal : List PlainOp) (k : ℕ)
     → length r.journal ≡ accepted r.history
     → ((n : ℕ) → n ≤ length r.journal → take n journal ≡ take n r.journal)
     → k ≤ length r.history
@@ -56,7 +56,7 @@ first_all r numbered =
     take_all (accepted r.history) r.journal (omega (arith, numbered)) in
     rw events (rw operations refl)
 
-pub legal_more : (r : Record) (last : HistoryEvent) (journal : List Operation)
+pub legal_more : (r : Record) (last : HistoryEvent) (journal : List PlainOp)
     → AreLegal r → IsLegalNext r last
     → ((n : ℕ) → n ≤ length r.journal → take n journal ≡ take n r.journal)
     → length journal ≡ accepted (r.history ++ last ∷ [])

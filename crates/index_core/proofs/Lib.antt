@@ -3,5 +3,5 @@ pub mod LegalLemmas
 pub mod ViewLemmas
 pub mod ReleasedLemmas
 pub mod KeptLemmas
-pub mod MachineLemmas
 pub mod ViewingLemmas
+pub mod StoreLemmas

@@ -6,7 +6,8 @@ use Rattle.std.proofs.lemmas.List.Elements.{All-weaker, All-head, All-tail, All-
 use Rattle.std.proofs.lemmas.Map.Views.{list_any-from_Contains}
 use Rattle.std.proofs.lemmas.Cmp.{nat_eq_equiv}
 use Rattle.index_core.specs.Histories.{HistoryEvent, drawn_generation, drawn, begun_merges, current}
-use Rattle.index_core.specs.Histories.{is_among, is_referenced, released}
+use Rattle.index_core.specs.Histories.{Record, is_among}
+use Rattle.index_core.specs.Records.{with_event, is_referenced, released}
 use Rattle.index_core.proofs.HistoryLemmas.{skips}
 
 -- all pass a test that always passes
@@ -31,16 +32,17 @@ none_pass p q (g ∷ gs) passes =
     let here : q g ≡ true = All-head (λ x. q x ≡ true) g gs passes in
     rw here (rw (and_false (p g)) (none_pass p q gs (All-tail (λ x. q x ≡ true) g gs passes)))
 
--- an event that draws no generation, in a history without merges, releases none
-pub released-none : (history : List HistoryEvent) (event : HistoryEvent)
-    → drawn_generation event ≡ None → begun_merges (history ++ event ∷ []) ≡ []
-    → released history event ≡ []
-released-none history event no-draw none =
+-- an event that draws no generation, in a record without merges, releases none
+pub released-none : (r : Record) (event : HistoryEvent)
+    → drawn_generation event ≡ None → begun_merges (r.history ++ event ∷ []) ≡ []
+    → released r event ≡ []
+released-none r event no-draw none =
+    let history = r.history in
     let later = history ++ event ∷ [] in
     let all_current : current later ≡ drawn history =
     current-unmerged later none ∙ skips drawn_generation history event no-draw in
-    none_pass (is_referenced history) (is_referenced later) (drawn history)
-    (All-weaker (Contains (drawn history)) (λ g. is_referenced later g ≡ true)
+    none_pass (is_referenced r) (is_referenced (with_event r event)) (drawn history)
+    (All-weaker (Contains (drawn history)) (λ g. is_referenced (with_event r event) g ≡ true)
     (λ g there.
     let among : is_among g (current later) ≡ true =
     rw all_current (list_any-from_Contains nat_eq_equiv g (drawn history) there) in

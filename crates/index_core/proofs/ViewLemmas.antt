@@ -7,13 +7,17 @@ use Rattle.std.specs.List.{filter_map}
 use Rattle.std.proofs.lemmas.List.Elements.{filter_map-append, filter-append, filter_agree}
 use Rattle.std.proofs.lemmas.List.Elements.{All-weaker, All-nil, All-cons, All-head, All-tail}
 use Rattle.std.proofs.lemmas.List.Elements.{All-contains}
+use Rattle.std.proofs.lemmas.List.{append-nil}
 use Rattle.std.proofs.lemmas.List.Folds.{list_any-append, list_any_none}
-use Rattle.index_core.specs.Histories.{HistoryEvent, freeze, view_end, Record, View, is_among}
-use Rattle.index_core.specs.Histories.{accepted, frozen, buffered, next_generation, begun_view}
-use Rattle.index_core.specs.Histories.{ended_view, begun_views, open_views}
-use Rattle.index_core.specs.Representation.{AreViewsFrom}
+use Rattle.sg_paths.specs.Operations.{PlainOp}
+use Rattle.index_core.specs.declared.limits.TheConstants.{BATCH_OPERATIONS}
+use Rattle.index_core.specs.Histories.{HistoryEvent, accept, freeze, view_end, Record, View}
+use Rattle.index_core.specs.Histories.{is_among, accepted, frozen, begun_view, ended_view}
+use Rattle.index_core.specs.Histories.{begun_views, open_views}
+use Rattle.index_core.specs.Records.{with_event, buffered, next_generation}
+use Rattle.index_core.specs.Fields.{AreViewsFrom}
 use Rattle.index_core.specs.OpenViews.{without}
-use Rattle.index_core.specs.Calls.{with_event, after_freeze, beginning}
+use Rattle.index_core.specs.Calls.{with_operation, after_accept, after_freeze, beginning}
 use Rattle.index_core.proofs.HistoryLemmas.{skips}
 
 -- a number over all numbers of a list isn't among them
@@ -34,12 +38,26 @@ open_views-skip history event no-begin no-end =
 pub open_views-after_freeze : (caller : ℕ) (r : Record)
     → open_views (after_freeze caller r).history ≡ open_views r.history
 open_views-after_freeze caller r =
-    let event = freeze caller (next_generation r.history) (frozen r.history + 1)
+    let event = freeze caller (next_generation r) (frozen r.history + 1)
     (accepted r.history) in
-    elim (nat_eq (buffered r.history) 0) as (λ none.
+    elim (nat_eq (buffered r) 0) as (λ none.
     open_views (if none then r else with_event r event).history ≡ open_views r.history) [
       | true ↦ refl
       | false ↦ open_views-skip r.history event refl refl
+    ]
+
+-- nor does an accept, with the freeze of a full buffer
+pub open_views-after_accept : (caller : ℕ) (operation : PlainOp) (r : Record)
+    → open_views (after_accept caller operation r).history ≡ open_views r.history
+open_views-after_accept caller operation r =
+    let added = with_operation caller operation r in
+    let one : open_views added.history ≡ open_views r.history =
+    open_views-skip r.history (accept caller (accepted r.history + 1)) refl refl in
+    elim (nat_eq (buffered added) BATCH_OPERATIONS) as (λ full.
+    open_views (if full then after_freeze caller added else added).history
+    ≡ open_views r.history) [
+      | true ↦ open_views-after_freeze caller added ∙ one
+      | false ↦ one
     ]
 
 pub open_views-begin : (history : List HistoryEvent) (v : View)
@@ -109,6 +127,23 @@ without_lesser n first (v ∷ vs) over lesser =
     let other : nat_eq v.view n ≡ false = grind (arith, here, lesser) in
     rw other (ap (λ (ws : List View). v ∷ ws)
     (without_lesser n first vs (All-tail (λ w. first ≤ w.view) v vs over) lesser))
+
+-- a greater number takes no view away
+pub without_greater : (n : ℕ) (vs : List View) → All (λ v. v.view < n) vs → without n vs ≡ vs
+without_greater n [] below = refl
+without_greater n (v ∷ vs) below =
+    let here : v.view < n = All-head (λ w. w.view < n) v vs below in
+    let other : nat_eq v.view n ≡ false = grind (arith, here) in
+    rw other (ap (λ (ws : List View). v ∷ ws)
+    (without_greater n vs (All-tail (λ w. w.view < n) v vs below)))
+
+-- without the newest view, whose number is greater, those before it are left
+pub without_newest : (vs : List View) (v : View) → All (λ w. w.view < v.view) vs
+    → without v.view (vs ++ v ∷ []) ≡ vs
+without_newest vs v below =
+    let same : nat_eq v.view v.view ≡ true = grind arith in
+    filter-append (λ w. not (nat_eq w.view v.view)) vs (v ∷ [])
+    ∙ rw same (append-nil (without v.view vs)) ∙ without_greater v.view vs below
 
 -- what is in a list is its first element or among the rest
 first_or_later : (w v : View) (ws : List View) → Contains (w ∷ ws) v → (w ≡ v) ⊎ Contains ws v

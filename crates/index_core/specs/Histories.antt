@@ -1,9 +1,10 @@
--- The history of an index as plain data, and what it says. Source: this project's own, after the
--- sequence numbers, segments and point-in-time readers of Lucene's IndexWriter.
-use Rattle.std.specs.Prelude.{ℕ, ◌+◌, ◌-◌, Bool, not, nat_eq, ◌||◌, ◌&&◌, ◌++◌, Option, Some, None}
-use Rattle.std.specs.Prelude.{List, [], ◌∷◌, length, filter, fold}
+-- The history of an index as plain data, and what a list of its events says; what the whole record
+-- says stands in `Records`. Source: this project's own, after the sequence numbers, segments and
+-- point-in-time readers of Lucene's IndexWriter.
+use Rattle.std.specs.Prelude.{ℕ, Bool, not, nat_eq, Option, Some, None, List, [], ◌∷◌, length}
+use Rattle.std.specs.Prelude.{filter, fold}
 use Rattle.std.specs.List.{filter_map, flat_map, list_any}
-use Rattle.sg_paths.specs.Operations.{Operation}
+use Rattle.sg_paths.specs.Operations.{PlainOp}
 use Rattle.index_core.specs.declared.event.Event.{Event}
 use Rattle.index_core.specs.declared.event.Event.TheVariants.{Accept, Seal, Begin, Built, Lived}
 use Rattle.index_core.specs.declared.event.Event.TheVariants.{MergeBegin, MergeEnd, MergeDrop, End}
@@ -35,7 +36,7 @@ event_of (End caller view freed) = view_end caller view freed.items
 -- a history with its journal, whose n-th operation is that of the n-th accept
 pub record Record : Type 0 where
   pub history : List HistoryEvent
-  pub journal : List Operation
+  pub journal : List PlainOp
 
 -- a point-in-time view of the first upto operations
 pub record View : Type 0 where
@@ -111,25 +112,13 @@ accepted history = length (filter_map accepted_number history)
 abbrev pub frozen : List HistoryEvent → ℕ
 frozen history = last_of (filter_map frozen_upto history)
 
--- how many are buffered
-abbrev pub buffered : List HistoryEvent → ℕ
-buffered history = accepted history - frozen history
-
 -- the generations that were drawn, rising
 abbrev pub drawn : List HistoryEvent → List ℕ
 drawn history = filter_map drawn_generation history
 
--- the generation that is drawn next
-abbrev pub next_generation : List HistoryEvent → ℕ
-next_generation history = length (drawn history) + 1
-
 -- the views that were begun, in order
 abbrev pub begun_views : List HistoryEvent → List View
 begun_views history = filter_map begun_view history
-
--- the number of the view that begins next
-abbrev pub next_view : List HistoryEvent → ℕ
-next_view history = length (begun_views history) + 1
 
 -- those that weren't ended
 abbrev pub open_views : List HistoryEvent → List View
@@ -149,10 +138,6 @@ merges_from frozen_before (_ ∷ events) = merges_from frozen_before events
 abbrev pub begun_merges : List HistoryEvent → List Merge
 begun_merges history = merges_from 0 history
 
--- the number of the merge that begins next
-abbrev pub next_merge : List HistoryEvent → ℕ
-next_merge history = length (begun_merges history) + 1
-
 -- those that were neither ended nor dropped
 abbrev pub open_merges : List HistoryEvent → List Merge
 open_merges history =
@@ -167,16 +152,3 @@ replaced history =
 -- the generations in use, rising
 abbrev pub current : List HistoryEvent → List ℕ
 current history = filter (λ g. not (is_among g (replaced history))) (drawn history)
-
--- whether it is current, or stands in an open view or an open merge
-abbrev pub is_referenced : List HistoryEvent → ℕ → Bool
-is_referenced history g =
-    is_among g (current history)
-    || (list_any (λ v. is_among g v.generations) (open_views history)
-    || list_any (λ m. is_among g m.generations) (open_merges history))
-
--- the generations that were referenced before an event and aren't after it, rising
-abbrev pub released : List HistoryEvent → HistoryEvent → List ℕ
-released history event =
-    filter (λ g. is_referenced history g && not (is_referenced (history ++ event ∷ []) g))
-    (drawn history)

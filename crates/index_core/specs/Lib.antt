@@ -1,7 +1,10 @@
+pub mod Limits
 pub mod Histories
+pub mod Records
 pub mod Generations
 pub mod Merges
 pub mod LegalHistories
+pub mod WorkedHistories
 pub mod OpenViews
 pub mod Calls
-pub mod Representation
+pub mod Fields

@@ -8,7 +8,8 @@ use Rattle.sg_paths.specs.LiveDocuments.{is_deleted}
 use Rattle.sg_paths.specs.Paths.{paths}
 use Rattle.index_core.specs.declared.limits.TheConstants.{MOST_SEGMENT_DOCUMENTS}
 use Rattle.index_core.specs.declared.limits.TheConstants.{MOST_SEGMENT_PATHS}
-use Rattle.index_core.specs.Histories.{HistoryEvent, Record, is_among, current, open_merges}
+use Rattle.index_core.specs.Histories.{Record, is_among}
+use Rattle.index_core.specs.Records.{current, open_merges}
 use Rattle.index_core.specs.Generations.{documents_of, applied, is_built}
 
 -- what the plan looks at in a generation
@@ -59,7 +60,7 @@ plan sizes =
 abbrev pub size_of : Record → ℕ → Size
 size_of r g =
     let documents = documents_of r g in
-    let upto = applied r.history g in
+    let upto = applied r g in
     record {
       generation = g;
       documents = length documents;
@@ -68,11 +69,10 @@ size_of r g =
     }
 
 -- whether it is built and in no open merge
-abbrev pub is_candidate : List HistoryEvent → ℕ → Bool
-is_candidate history g =
-    is_built history g
-    && not (list_any (λ m. is_among g m.generations) (open_merges history))
+abbrev pub is_candidate : Record → ℕ → Bool
+is_candidate r g =
+    is_built r g && not (list_any (λ m. is_among g m.generations) (open_merges r))
 
 -- the plan over the built current generations that are in no open merge
 abbrev pub merge_plan : Record → Option (List ℕ)
-merge_plan r = plan (map (size_of r) (filter (is_candidate r.history) (current r.history)))
+merge_plan r = plan (map (size_of r) (filter (is_candidate r) (current r)))

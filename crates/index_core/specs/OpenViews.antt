@@ -2,7 +2,7 @@
 use Rattle.std.specs.Prelude.{◌≡◌, ⊤, ℕ, ◌+◌, ◌-◌, not, nat_eq, Option, Some, None, List, [], ◌∷◌}
 use Rattle.std.specs.Prelude.{length, map, filter, take, drop}
 use Rattle.std.specs.List.{flat_map, filter_map}
-use Rattle.sg_paths.specs.Operations.{Operation, NumberedDocument, PlainBatch, documents_from}
+use Rattle.sg_paths.specs.Operations.{PlainOp, PlainNumbered, PlainBatch, documents_from}
 use Rattle.index_core.specs.Histories.{HistoryEvent, freeze, Record, View, is_among}
 
 -- a generation with its batch
@@ -15,14 +15,14 @@ abbrev pub without : ℕ → List View → List View
 without number views = filter (λ v. not (nat_eq v.view number)) views
 
 -- operations with these numbers, under a generation
-abbrev pub piece_of : ℕ → ℕ → ℕ → List Operation → PlainPiece
+abbrev pub piece_of : ℕ → ℕ → ℕ → List PlainOp → PlainPiece
 piece_of generation from upto operations = record {
   generation = generation;
   batch = record { from = from; upto = upto; operations = operations };
 }
 
 -- the piece that a freeze makes of the journal: the operations from..upto, under its generation
-abbrev pub frozen_piece : List Operation → HistoryEvent → Option PlainPiece
+abbrev pub frozen_piece : List PlainOp → HistoryEvent → Option PlainPiece
 frozen_piece journal (freeze caller generation from upto) =
     Some (piece_of generation from upto (drop (from - 1) (take upto journal)))
 frozen_piece journal _ = None
@@ -53,11 +53,11 @@ view_of caller parts =
     }
 
 -- the operations of the pieces, in order
-abbrev pub operations_of : List PlainPiece → List Operation
+abbrev pub operations_of : List PlainPiece → List PlainOp
 operations_of pieces = flat_map (λ piece. piece.batch.operations) pieces
 
 -- the documents that the pieces add, by number
-abbrev pub documents_in : List PlainPiece → List NumberedDocument
+abbrev pub documents_in : List PlainPiece → List PlainNumbered
 documents_in pieces =
     flat_map (λ piece. documents_from piece.batch.from piece.batch.operations) pieces
 

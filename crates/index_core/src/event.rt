@@ -1,4 +1,4 @@
-//! Events.
+//! What happened to the index.
 use sg_base::List;
 
 /// What happened to the index, in the order of its history. Operations, generations, views and

@@ -1,8 +1,9 @@
-//! The core.
-ghost use Rattle.std.specs.Prelude.{◌≡◌, ◌<◌, ◌≤◌, ◌+◌, [], ◌∷◌, ◌++◌, IsSome, IfOk, IfErr};
+//! The calls of the index.
+ghost use Rattle.std.specs.Prelude.{◌≡◌, ◌<◌, ◌≤◌, ◌+◌, [], ◌∷◌, ◌++◌, IfOk, IfErr};
 ghost use Rattle.std.specs.Prelude.{OnOk, OnErr, length, map, Contains};
-ghost use Rattle.sg_paths.specs.Operations.{operation_of};
-ghost use Rattle.index_core.specs.Histories.{event_of, accepted, open_views};
+ghost use Rattle.sg_paths.specs.Operations.{plain_op};
+ghost use Rattle.index_core.specs.Histories.{event_of};
+ghost use Rattle.index_core.specs.Records.{accepted, buffered, open_views};
 ghost use Rattle.index_core.specs.LegalHistories.{IsLegal};
 ghost use Rattle.index_core.specs.Calls.{empty_record, after_accept, after_freeze, after_begin};
 ghost use Rattle.index_core.specs.Calls.{after_end, begun_by, frozen_generation, released_by_end};
@@ -10,62 +11,31 @@ ghost use Rattle.index_core.specs.Calls.{RefusesOperation, RefusesView};
 ghost use Rattle.index_core.specs.OpenViews.{view_of, without, HoldsFirst};
 
 use crate::event::Event;
-use crate::freezing::make_room;
 use crate::limits::{MOST_OPEN_VIEWS, MOST_OPERATIONS};
-use crate::parts::{Freed, Piece, ViewParts};
+use crate::parts::{Freed, ViewParts};
 use crate::refusal::{Refused, ViewError, Why};
-use crate::sharing::begin;
-use crate::steps::{buffer_or_freeze, freeze_buffered, share_all};
+use crate::store::Store;
 use sg_base::List;
-use sg_paths::{Batch, Op};
+use sg_paths::Op;
 use std::alloc::{AllocError, Global};
 use std::marker::Model;
-use std::sync::Arc;
 
 /// The index as a pure machine. Operations are buffered until 16,384 are, or until a view begins,
 /// and then frozen as a batch under a generation of its own.
 #[derive(Drop)]
 pub struct Core {
-    alloc: Global,
-    events: Vec<Event>,
-    pieces: Vec<Piece>,
-    buffered: Vec<Op>,
-    /// All that is buffered, as a batch that was made for a view which then couldn't be begun.
-    unshared: Option<Arc<Batch>>,
-    /// How many operations the pieces have.
-    frozen: u64,
-    /// How many views were begun.
-    begun: u64,
-    /// How many of them are open.
-    opened: u32,
+    store: Store,
 }
 
 impl Model for Core {
-    ghost use Rattle.std.specs.Prelude.{◌≡◌, ◌++◌, [], map, option_map, IsSome};
-    ghost use Rattle.std.specs.Vec.{vec_capacity};
-    ghost use Rattle.index_core.specs.Histories.{Record, event_of};
-    ghost use Rattle.index_core.specs.OpenViews.{operations_of};
-    ghost use Rattle.index_core.specs.Representation.{IsKept, buffer_of};
+    ghost use Rattle.index_core.specs.Histories.{Record};
+    ghost use Rattle.index_core.specs.Fields.{IsKept, record_of};
 
     ghost Value = { Record };
 
-    ghost view = { λ c. record {
-      history = map event_of c.events.items;
-      journal = operations_of c.pieces.items
-          ++ buffer_of (option_map (λ b. b.value) c.unshared) c.buffered.items;
-    } };
+    ghost view = { λ c. record_of c.store };
 
-    ghost invariant = { λ c.
-        (IsSome c.unshared → c.buffered.items ≡ [])
-        × IsKept (record {
-          history = map event_of c.events.items;
-          pieces = c.pieces.items;
-          buffer = buffer_of (option_map (λ b. b.value) c.unshared) c.buffered.items;
-          frozen_count = c.frozen;
-          begun_count = c.begun;
-          open_count = c.opened;
-          places = vec_capacity c.events;
-        }) };
+    ghost invariant = { λ c. IsKept c.store };
 }
 
 impl Core {
@@ -75,14 +45,7 @@ impl Core {
         ensures legal { IsLegal result }
     {
         Core {
-            alloc,
-            events: Vec::new(alloc),
-            pieces: Vec::new(alloc),
-            buffered: Vec::new(alloc),
-            unshared: None,
-            frozen: 0,
-            begun: 0,
-            opened: 0,
+            store: Store::new(alloc),
         }
     }
 
@@ -91,45 +54,43 @@ impl Core {
         ensures value { map event_of result.now ≡ self.now.history }
         ensures legal { IsLegal self.now }
     {
-        self.events.as_slice()
+        self.store.history()
     }
 
     /// How many operations are accepted.
     pub fn accepted(&self) -> u64
-        ensures count { result ≡ accepted self.now.history }
+        ensures count { result ≡ accepted self.now }
         ensures journal { result ≡ length self.now.journal }
         ensures most { result ≤ MOST_OPERATIONS }
     {
-        match &self.unshared {
-            Some(batch) => self.frozen + batch.ops.items().len() as u64,
-            None => self.frozen + self.buffered.len() as u64,
-        }
+        self.store.accepted()
     }
 
     /// How many views are open.
     pub fn open_views(&self) -> u32
-        ensures { result ≡ length (open_views self.now.history) }
+        ensures { result ≡ length (open_views self.now) }
     {
-        self.opened
+        self.store.opened()
     }
 
     /// Appends an accept, and a freeze where the buffer is then full; answers the number of the
     /// operation. The errors in order: `Full`, `Memory`.
     pub fn accept(&mut self, caller: u32, op: Op) -> Result<u64, Refused>
         // What an Ok answers and appends, and where it comes.
-        ensures number { IfOk result (λ seq. seq ≡ accepted self.old.history + 1) }
-        ensures ok { OnOk result (self.new ≡ after_accept caller (operation_of op) self.old) }
-        ensures room { OnOk result (accepted self.old.history < MOST_OPERATIONS) }
+        ensures number { IfOk result (λ seq. seq ≡ accepted self.old + 1) }
+        ensures ok { OnOk result (self.new ≡ after_accept caller (plain_op op) self.old) }
+        ensures room { OnOk result (accepted self.old < MOST_OPERATIONS) }
 
         // Why it is refused, and what that leaves.
         ensures refused { IfErr result (λ r. RefusesOperation self.old r.why) }
-        ensures returned { IfErr result (λ r. operation_of r.op ≡ operation_of op) }
+        ensures returned { IfErr result (λ r. plain_op r.op ≡ plain_op op) }
         ensures err { OnErr result (self.new ≡ self.old) }
 
         // After both.
+        ensures views { open_views self.new ≡ open_views self.old }
         ensures legal { IsLegal self.new }
     {
-        let count = self.accepted();
+        let count = self.store.accepted();
         if count >= MOST_OPERATIONS {
             return Err(Refused {
                 op,
@@ -137,57 +98,35 @@ impl Core {
             });
         }
         // A place for the accept and one for a freeze, beside those that open views have reserved.
-        let places = self.opened as usize + 2;
-        let Ok(()) = make_room(
-            &mut self.events,
-            &mut self.buffered,
-            &mut self.unshared,
-            places,
-        ) else {
+        let places = self.store.opened() as usize + 2;
+        let Ok(()) = self.store.make_room(places) else {
             return Err(Refused::out_of_memory(op));
         };
-        if let Err(op) = buffer_or_freeze(
-            self.alloc,
-            &mut self.events,
-            &mut self.pieces,
-            &mut self.buffered,
-            &mut self.frozen,
-            caller,
-            op,
-        ) {
+        if let Err(op) = self.store.accept(caller, op) {
             return Err(Refused::out_of_memory(op));
         }
         Ok(count + 1)
     }
 
-    /// Freezes what is buffered, and answers its generation; `None` where nothing is.
+    /// Freezes what is buffered, and answers its generation; `None` where nothing is, which takes
+    /// no memory.
     pub fn seal(&mut self, caller: u32) -> Result<Option<u32>, AllocError>
         ensures generation { IfOk result (λ g. g ≡ frozen_generation self.old) }
         ensures ok { OnOk result (self.new ≡ after_freeze caller self.old) }
+        ensures cause { OnErr result (0 < buffered self.old) }
         ensures err { OnErr result (self.new ≡ self.old) }
+        ensures views { open_views self.new ≡ open_views self.old }
         ensures legal { IsLegal self.new }
     {
-        if self.accepted() == self.frozen {
+        if self.store.accepted() == self.store.frozen() {
             return Ok(None);
         }
         // A place for the freeze, beside those that open views have reserved.
-        let places = self.opened as usize + 1;
-        make_room(
-            &mut self.events,
-            &mut self.buffered,
-            &mut self.unshared,
-            places,
-        )?;
-        let piece = freeze_buffered(
-            self.alloc,
-            &mut self.events,
-            &mut self.pieces,
-            &mut self.buffered,
-            &mut self.unshared,
-            &mut self.frozen,
-            caller,
-        )?;
-        Ok(Some(piece.generation))
+        let places = self.store.opened() as usize + 1;
+        self.store.reserve(places)?;
+        self.store.close()?;
+        self.store.freeze(caller);
+        Ok(Some(self.store.drawn()))
     }
 
     /// Freezes what is buffered, and begins a view of all operations: one shared owner a piece.
@@ -197,13 +136,15 @@ impl Core {
         ensures view { IfOk result (λ p. view_of caller p ≡ begun_by caller self.old) }
         ensures held { IfOk result (HoldsFirst self.new) }
         ensures begun { IfOk result (λ p.
-            Contains (open_views self.new.history) (view_of caller p)) }
+            Contains (open_views self.new) (view_of caller p)) }
 
         // What an Ok appends, and where it comes.
         ensures ok { OnOk result (self.new ≡ after_begin caller self.old) }
-        ensures opened { IfOk result (λ p. open_views self.new.history
-            ≡ open_views self.old.history ++ view_of caller p ∷ []) }
-        ensures room { OnOk result (length (open_views self.old.history) < MOST_OPEN_VIEWS) }
+        ensures opened { IfOk result (λ p. open_views self.new
+            ≡ open_views self.old ++ view_of caller p ∷ []) }
+        ensures others { IfOk result (λ p.
+            without p.view (open_views self.new) ≡ open_views self.old) }
+        ensures room { OnOk result (length (open_views self.old) < MOST_OPEN_VIEWS) }
 
         // Why it is refused, and what that leaves.
         ensures refused { IfErr result (RefusesView self.old) }
@@ -212,39 +153,37 @@ impl Core {
         // After both.
         ensures legal { IsLegal self.new }
     {
-        if self.opened >= MOST_OPEN_VIEWS {
-            return Err(ViewError::TooMany { count: self.opened });
+        let opened = self.store.opened();
+        if opened >= MOST_OPEN_VIEWS {
+            return Err(ViewError::TooMany { count: opened });
         }
         // A place for a freeze, for the begin and for its end, beside those of open views.
-        let places = self.opened as usize + 3;
-        make_room(
-            &mut self.events,
-            &mut self.buffered,
-            &mut self.unshared,
-            places,
-        )?;
-        let shares = share_all(
-            self.alloc,
-            &mut self.events,
-            &mut self.pieces,
-            &mut self.buffered,
-            &mut self.unshared,
-            &mut self.frozen,
-            caller,
-        )?;
-        self.begun += 1;
-        self.opened += 1;
-        Ok(begin(&mut self.events, caller, self.begun, self.frozen, shares))
+        self.store.reserve(opened as usize + 3)?;
+        self.store.close()?;
+        let parts = self.store.share()?;
+        // No step after the first event can fail.
+        let Ok(gens) = self.store.held(&parts) else {
+            let ViewParts {
+                view: _,
+                upto: _,
+                pieces: _,
+                gens: _,
+            } = parts;
+            return Err(ViewError::Memory);
+        };
+        self.store.freeze_all(caller);
+        self.store.begin(caller, gens);
+        Ok(parts)
     }
 
     /// Ends a view, and answers the generations that nothing references any more. Takes no memory:
     /// the place of its event is reserved when the view begins.
     pub fn end_view(&mut self, caller: u32, parts: ViewParts) -> Freed
-        requires { Contains (open_views self.old.history) (view_of caller parts) }
+        requires { Contains (open_views self.old) (view_of caller parts) }
         ensures freed { result.gens.items ≡ released_by_end caller parts.view self.old }
         ensures ok { self.new ≡ after_end caller parts.view self.old }
-        ensures ended { open_views self.new.history
-            ≡ without parts.view (open_views self.old.history) }
+        ensures ended { open_views self.new
+            ≡ without parts.view (open_views self.old) }
         ensures legal { IsLegal self.new }
     {
         let ViewParts {
@@ -255,12 +194,7 @@ impl Core {
         } = parts;
         let mut gens = gens.into_vec();
         gens.clear();
-        self.events.push_reserved(Event::End {
-            caller,
-            view,
-            freed: List::of(Vec::new(self.alloc)),
-        });
-        self.opened -= 1;
+        self.store.end(caller, view);
         Freed {
             gens: List::of(gens),
         }

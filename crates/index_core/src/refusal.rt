@@ -1,4 +1,4 @@
-//! Refusals.
+//! Why an operation isn't accepted, or a view isn't begun.
 ghost use Rattle.std.specs.Prelude.{◌≡◌};
 ghost use Rattle.index_core.specs.declared.refusal.ViewError.TheVariants.{Memory};
 

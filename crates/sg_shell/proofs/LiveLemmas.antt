@@ -12,7 +12,7 @@ use Rattle.std.proofs.Math.Seq.{take-length}
 use Rattle.std.proofs.lemmas.List.{drop_all}
 use Rattle.std.proofs.lemmas.Bool.Decides.{nat_tests}
 use Rattle.std.proofs.lemmas.List.Elements.{filter-append, filter_agree}
-use Rattle.sg_paths.specs.Operations.{Operation, NumberedDocument, documents_from, deleted_id}
+use Rattle.sg_paths.specs.Operations.{PlainOp, PlainNumbered, documents_from, deleted_id}
 use Rattle.sg_paths.specs.LiveDocuments.{deletes_id, live_documents}
 use Rattle.sg_paths.proofs.LiveDocumentsLemmas.{documents_from-append}
 use Rattle.index_core.specs.OpenViews.{PlainPiece, operations_of}
@@ -21,13 +21,13 @@ use Rattle.sg_shell.specs.LastDeletes.{delete_after, last_delete, undeleted}
 -- ---- the last delete
 
 -- an operation that deletes these bytes, as a map's change says it
-pub delete_after-change : (operation : Operation) (id other : List ℕ) (seq : ℕ) (before : Option ℕ)
+pub delete_after-change : (operation : PlainOp) (id other : List ℕ) (seq : ℕ) (before : Option ℕ)
     → Some id ≡ deleted_id operation
     → cond (bytes_eq id other) (Some seq) before ≡ delete_after other seq operation before
 delete_after-change operation id other seq before is =
     rw (← is, nat_list_eq_equiv.symm other id) refl
 
-pub last_delete-append : (id : List ℕ) (n : ℕ) (xs ys : List Operation) (before : Option ℕ)
+pub last_delete-append : (id : List ℕ) (n : ℕ) (xs ys : List PlainOp) (before : Option ℕ)
     → last_delete id n (xs ++ ys) before
     ≡ last_delete id (n + length xs) ys (last_delete id n xs before)
 last_delete-append id n [] ys before = rw add-zero refl
@@ -36,21 +36,21 @@ last_delete-append id n (x ∷ xs) ys before =
     rw e (last_delete-append id (n + 1) xs ys (delete_after id n x before))
 
 -- no operation deletes the id
-pub record Keeps (id : List ℕ) (ops : List Operation) (before after : Option ℕ) : Type 0 where
+pub record Keeps (id : List ℕ) (ops : List PlainOp) (before after : Option ℕ) : Type 0 where
   pub none : list_any (deletes_id id) ops ≡ false
   pub same : after ≡ before
 
 -- one does, with a number of at least n
-pub record Deletes (id : List ℕ) (n : ℕ) (ops : List Operation) (after : Option ℕ) : Type 0 where
+pub record Deletes (id : List ℕ) (n : ℕ) (ops : List PlainOp) (after : Option ℕ) : Type 0 where
   pub last : ℕ
   pub some : list_any (deletes_id id) ops ≡ true
   pub is : after ≡ Some last
   pub not_before : n ≤ last
 
-abbrev Either : List ℕ → ℕ → List Operation → Option ℕ → Option ℕ → Type 0
+abbrev Either : List ℕ → ℕ → List PlainOp → Option ℕ → Option ℕ → Type 0
 Either id n ops before after = Keeps id ops before after ⊎ Deletes id n ops after
 
-either-cons : (b : Bool) (id : List ℕ) (n : ℕ) (x : Operation) (xs : List Operation)
+either-cons : (b : Bool) (id : List ℕ) (n : ℕ) (x : PlainOp) (xs : List PlainOp)
     (before after : Option ℕ) → deletes_id id x ≡ b
     → Either id (n + 1) xs (delete_after id n x before) after → Either id n (x ∷ xs) before after
 either-cons true id n x xs before after is (inl keeps) = inr (record {
@@ -76,7 +76,7 @@ either-cons false id n x xs before after is (inr deletes) = inr (record {
   not_before = let h = deletes.not_before in omega arith;
 })
 
-last_delete-either : (id : List ℕ) (n : ℕ) (ops : List Operation) (before : Option ℕ)
+last_delete-either : (id : List ℕ) (n : ℕ) (ops : List PlainOp) (before : Option ℕ)
     → Either id n ops before (last_delete id n ops before)
 last_delete-either id n [] before = inl (record { none = refl; same = refl })
 last_delete-either id n (x ∷ xs) before =
@@ -93,7 +93,7 @@ some_later : (m last : ℕ) (after : Option ℕ) → after ≡ Some last → m +
     → true ≡ nat_lt m (unwrap_or after 0)
 some_later m last after is high = rw is (grind (arith, nat_tests))
 
-by_either : (id : List ℕ) (m : ℕ) (ops : List Operation) (before after : Option ℕ)
+by_either : (id : List ℕ) (m : ℕ) (ops : List PlainOp) (before after : Option ℕ)
     → unwrap_or before 0 ≤ m → Either id (m + 1) ops before after
     → list_any (deletes_id id) ops ≡ nat_lt m (unwrap_or after 0)
 by_either id m ops before after low (inl keeps) =
@@ -101,14 +101,14 @@ by_either id m ops before after low (inl keeps) =
 by_either id m ops before after low (inr deletes) =
     deletes.some ∙ some_later m deletes.last after deletes.is deletes.not_before
 
-delete_after-low : (b : Bool) (id : List ℕ) (m : ℕ) (x : Operation) (before : Option ℕ)
+delete_after-low : (b : Bool) (id : List ℕ) (m : ℕ) (x : PlainOp) (before : Option ℕ)
     → deletes_id id x ≡ b → unwrap_or before 0 ≤ m
     → unwrap_or (delete_after id (m + 1) x before) 0 ≤ m + 1
 delete_after-low true id m x before is low = rw is (omega arith)
 delete_after-low false id m x before is low = rw is (omega arith)
 
 -- an operation past the n-th deletes the id exactly where the last delete has a number over n
-deleted_later : (id : List ℕ) (m n : ℕ) (ops : List Operation) (before : Option ℕ)
+deleted_later : (id : List ℕ) (m n : ℕ) (ops : List PlainOp) (before : Option ℕ)
     → unwrap_or before 0 ≤ m
     → list_any (deletes_id id) (drop n ops)
     ≡ nat_lt (m + n) (unwrap_or (last_delete id (m + 1) ops before) 0)
@@ -122,7 +122,7 @@ deleted_later id m (suc n) (x ∷ xs) before low =
     (delete_after-low (deletes_id id x) id m x before refl low))
 
 -- documents whose id isn't deleted under a greater number are live
-pub undeleted-live : (ops : List Operation) (last : List ℕ → Option ℕ)
+pub undeleted-live : (ops : List PlainOp) (last : List ℕ → Option ℕ)
     → ((id : List ℕ) → last id ≡ last_delete id 1 ops None)
     → undeleted last (documents_from 1 ops) ≡ live_documents ops (length ops)
 undeleted-live ops last is =
@@ -145,23 +145,23 @@ operations_of-drop pieces i piece h is =
     (sym is)
 
 -- how many numbers are left, after one more piece
-pub numbers-piece : (from next total : ℕ) (all now later : List Operation) → all ≡ now ++ later
+pub numbers-piece : (from next total : ℕ) (all now later : List PlainOp) → all ≡ now ++ later
     → next ≡ from + length now → from + length all ≡ 1 + total → next + length later ≡ 1 + total
 numbers-piece from next total all now later split is left =
     omega (arith, ap length split, length-append now later, is, left)
 
 -- what was marked, after one more piece
-pub last_delete-piece : (id : List ℕ) (from next : ℕ) (all now later : List Operation)
+pub last_delete-piece : (id : List ℕ) (from next : ℕ) (all now later : List PlainOp)
     (before after whole : Option ℕ) → all ≡ now ++ later → next ≡ from + length now
     → after ≡ last_delete id from now before → last_delete id from all before ≡ whole
     → last_delete id next later after ≡ whole
 last_delete-piece id from next all now later before after whole split is marked left =
     rw (is, marked) (sym (last_delete-append id from now later before)
-    ∙ (ap (λ (ops : List Operation). last_delete id from ops before) (sym split) ∙ left))
+    ∙ (ap (λ (ops : List PlainOp). last_delete id from ops before) (sym split) ∙ left))
 
 -- what was kept, after one more piece
-pub undeleted-piece : (last : List ℕ → Option ℕ) (from next : ℕ) (all now later : List Operation)
-    (before after whole : List NumberedDocument) → all ≡ now ++ later → next ≡ from + length now
+pub undeleted-piece : (last : List ℕ → Option ℕ) (from next : ℕ) (all now later : List PlainOp)
+    (before after whole : List PlainNumbered) → all ≡ now ++ later → next ≡ from + length now
     → after ≡ before ++ undeleted last (documents_from from now)
     → before ++ undeleted last (documents_from from all) ≡ whole
     → after ++ undeleted last (documents_from next later) ≡ whole
@@ -172,13 +172,13 @@ undeleted-piece last from next all now later before after whole split is pushed 
     ap (undeleted last) (documents_from-append from now later)
     ∙ filter-append _ (documents_from from now) (documents_from (from + length now) later) in
     rw (is, pushed) (append_assoc before _ _
-    ∙ (ap (λ (ds : List NumberedDocument). before ++ ds) (sym joined)
-    ∙ (ap (λ (ops : List Operation). before ++ undeleted last (documents_from from ops))
+    ∙ (ap (λ (ds : List PlainNumbered). before ++ ds) (sym joined)
+    ∙ (ap (λ (ops : List PlainOp). before ++ undeleted last (documents_from from ops))
     (sym split) ∙ left)))
 
 -- what was kept, where no piece is left
 pub undeleted-end : (last : List ℕ → Option ℕ) (from i : ℕ) (pieces : List PlainPiece)
-    (kept whole : List NumberedDocument) → length pieces ≤ i
+    (kept whole : List PlainNumbered) → length pieces ≤ i
     → kept ++ undeleted last (documents_from from (operations_of (drop i pieces))) ≡ whole
     → kept ≡ whole
 undeleted-end last from i pieces kept whole h left =

@@ -1,22 +1,20 @@
 -- What a run prints is a session.
-use Rattle.std.proofs.Common.{◌≡◌, ◌≤◌, ◌<◌, ◌+◌, ℕ}
-use Rattle.std.proofs.Common.{List, [], ◌∷◌, ◌++◌, length, take, drop, filter, not, Option}
-use Rattle.std.proofs.Common.{Some, None, refl, sym, ap, ◌∙◌, arith, append_assoc}
-use Rattle.std.proofs.Common.{length-append, IfSome, add-zero}
-use Rattle.std.specs.List.{All, AllPairs, filter_map, enumerate_from}
-use Rattle.std.specs.List.{list_any}
+use Rattle.std.proofs.Common.{◌≡◌, ◌≤◌, ◌<◌, ◌+◌, ℕ, List, [], ◌∷◌, ◌++◌, length, take, drop}
+use Rattle.std.proofs.Common.{filter, not, Option, Some, None, refl, sym, ap, ◌∙◌, arith}
+use Rattle.std.proofs.Common.{append_assoc, length-append, IfSome, add-zero}
+use Rattle.std.specs.List.{All, AllPairs, filter_map, enumerate_from, list_any}
 use Rattle.std.proofs.lemmas.List.Elements.{All-cons, filter_map-append}
 use Rattle.std.proofs.Math.Seq.{take-append_seam, take-length}
 use Rattle.std.proofs.lemmas.List.Kept.{AllPairs-cons}
 use Rattle.sg_context.specs.Queries.{PlainQuery}
-use Rattle.sg_paths.specs.Operations.{Operation, documents_from}
+use Rattle.sg_paths.specs.Operations.{PlainOp, documents_from}
 use Rattle.sg_paths.specs.LiveDocuments.{live_documents, deletes_id}
 use Rattle.index_core.specs.declared.limits.TheConstants.{MOST_OPERATIONS}
 use Rattle.wire_json.specs.Commands.{accepts, suggests, refused}
 use Rattle.wire_replies.specs.Replies.{numbered, rows, failed}
 use Rattle.wire_replies.specs.declared.error_kind.ErrorKind.{ErrorKind}
 use Rattle.wire_replies.specs.declared.error_kind.ErrorKind.TheVariants.{Full}
-use Rattle.sg_shell.specs.Answers.{rows_of}
+use Rattle.sg_shell.specs.Rows.{rows_of}
 use Rattle.sg_shell.specs.Runs.{Said}
 use Rattle.sg_shell.specs.Sessions.{number_printed, upto_printed, numbered_operation, IsFull}
 use Rattle.sg_shell.specs.Sessions.{IsAnswered, StandsBefore}
@@ -85,7 +83,7 @@ enumerate_from-append n (x ∷ xs) ys =
     rw e (ap (λ ps. (n, x) ∷ ps) (enumerate_from-append (n + 1) xs ys))
 
 -- what is live after so many operations depends on these alone
-live_documents-append : (journal more : List Operation)
+live_documents-append : (journal more : List PlainOp)
     → live_documents (journal ++ more) (length journal) ≡ live_documents journal (length journal)
 live_documents-append journal more =
     let same : take (length journal) (journal ++ more) ≡ take (length journal) journal =
@@ -96,7 +94,7 @@ live_documents-append journal more =
 -- ---- transcripts
 
 -- the transcript of lines that come after a journal, and accept more operations
-pub record Follows (journal : List Operation) (t : List Said) (more : List Operation) : Type 0 where
+pub record Follows (journal : List PlainOp) (t : List Said) (more : List PlainOp) : Type 0 where
   pub after : All (IsAfter (length journal)) t
   pub ordered : AllPairs StandsBefore t
   pub numbers : filter_map numbered_operation t ≡ enumerate_from (length journal + 1) more
@@ -106,14 +104,14 @@ pub record Follows (journal : List Operation) (t : List Said) (more : List Opera
   pub answered : All (λ e. IsAnswered (journal ++ more) e.line.command e.reply) t
 
 -- the reply to one line that comes after a journal, and accepts these operations
-pub record IsNext (journal : List Operation) (e : Said) (now : List Operation) : Type 0 where
+pub record IsNext (journal : List PlainOp) (e : Said) (now : List PlainOp) : Type 0 where
   pub after : IsAfter (length journal) e
   pub within : IsWithin (length journal + length now) e
   pub numbers : filter_map numbered_operation (e ∷ []) ≡ enumerate_from (length journal + 1) now
-  pub answered : (more : List Operation)
+  pub answered : (more : List PlainOp)
       → IsAnswered (journal ++ (now ++ more)) e.line.command e.reply
 
-pub follows-nil : (journal : List Operation) → length journal ≤ MOST_OPERATIONS
+pub follows-nil : (journal : List PlainOp) → length journal ≤ MOST_OPERATIONS
     → Follows journal [] []
 follows-nil journal most = record {
   after = λ k d h. absurd (omega arith);
@@ -125,7 +123,7 @@ follows-nil journal most = record {
   answered = λ k d h. absurd (omega arith);
 }
 
-pub follows-cons : (journal now more : List Operation) (e : Said) (t : List Said)
+pub follows-cons : (journal now more : List PlainOp) (e : Said) (t : List Said)
     → IsNext journal e now → Follows (journal ++ now) t more → Follows journal (e ∷ t) (now ++ more)
 follows-cons journal now more e t next later =
     let count : length (journal ++ now) ≡ length journal + length now = length-append journal now in
@@ -165,7 +163,7 @@ follows-cons journal now more e t next later =
 -- ---- lines
 
 -- a new number
-pub next-numbered : (journal : List Operation) (line lane : ℕ) (operation : Operation)
+pub next-numbered : (journal : List PlainOp) (line lane : ℕ) (operation : PlainOp)
     → length journal < MOST_OPERATIONS
     → IsNext journal
     (record {
@@ -182,7 +180,7 @@ next-numbered journal line lane operation room = record {
 }
 
 -- no room for one more
-pub next-full : (journal : List Operation) (line lane : ℕ) (operation : Operation)
+pub next-full : (journal : List PlainOp) (line lane : ℕ) (operation : PlainOp)
     → MOST_OPERATIONS ≤ length journal
     → IsNext journal
     (record {
@@ -199,7 +197,7 @@ next-full journal line lane operation full = record {
 }
 
 -- an answer over all operations so far
-pub next-rows : (journal : List Operation) (line lane : ℕ) (query : PlainQuery)
+pub next-rows : (journal : List PlainOp) (line lane : ℕ) (query : PlainQuery)
     → IsNext journal
     (record {
       line = record { number = line; command = suggests lane query None };
@@ -215,7 +213,7 @@ next-rows journal line lane query = record {
 }
 
 -- an error of the line itself
-pub next-refused : (journal : List Operation) (line : ℕ) (kind : ErrorKind)
+pub next-refused : (journal : List PlainOp) (line : ℕ) (kind : ErrorKind)
     → IsNext journal
     (record { line = record { number = line; command = refused kind }; reply = failed line kind })
     []

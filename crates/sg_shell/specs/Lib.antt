@@ -1,5 +1,6 @@
+pub mod Limits
 pub mod Lines
-pub mod Answers
+pub mod Rows
 pub mod LastDeletes
 pub mod Runs
 pub mod Sessions

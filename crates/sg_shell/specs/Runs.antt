@@ -4,21 +4,18 @@ use Rattle.std.specs.Prelude.{ℕ, ◌+◌, true, nat_le, if◌then◌else◌, L
 use Rattle.std.specs.Prelude.{flat_map, Option, Some, None}
 use Rattle.sg_analysis.specs.declared.analyzer.Analyzer.{Analyzer}
 use Rattle.sg_context.specs.Queries.{PlainQuery}
-use Rattle.sg_paths.specs.Operations.{Operation}
+use Rattle.sg_paths.specs.Operations.{PlainOp}
 use Rattle.sg_paths.specs.LiveDocuments.{live_documents}
-use Rattle.index_core.specs.Histories.{Record, accepted}
+use Rattle.index_core.specs.Histories.{Record}
+use Rattle.index_core.specs.Records.{accepted}
 use Rattle.index_core.specs.Calls.{empty_record, after_accept, after_begin, after_end, begun_by}
 use Rattle.index_core.specs.declared.limits.TheConstants.{MOST_OPERATIONS}
 use Rattle.wire_json.specs.Commands.{Command, accepts, suggests, refused, command_of}
 use Rattle.wire_replies.specs.Replies.{Reply, numbered, rows, failed, reply_text}
 use Rattle.wire_replies.specs.declared.error_kind.ErrorKind.TheVariants.{Full}
 use Rattle.sg_shell.specs.Lines.{lines_of}
-use Rattle.sg_shell.specs.Answers.{rows_of}
-use Rattle.sg_shell.specs.declared.engine.TheConstants.{LANES}
-
--- the program is the one caller of its index
-abbrev pub caller : ℕ
-caller = 0
+use Rattle.sg_shell.specs.Rows.{rows_of}
+use Rattle.sg_shell.specs.declared.engine.TheConstants.{CALLER, LANES}
 
 -- what a line prints, and the record after it
 pub record Step : Type 0 where
@@ -26,24 +23,24 @@ pub record Step : Type 0 where
   pub after : Record
 
 -- an operation prints its number, unless the index is full
-abbrev pub accept_step : ℕ → Operation → Record → Step
+abbrev pub accept_step : ℕ → PlainOp → Record → Step
 accept_step line operation r =
-    if nat_le MOST_OPERATIONS (accepted r.history)
+    if nat_le MOST_OPERATIONS (accepted r)
     then record { reply = Some (failed line Full); after = r }
     else record {
-      reply = Some (numbered line (accepted r.history + 1));
-      after = after_accept caller operation r;
+      reply = Some (numbered line (accepted r + 1));
+      after = after_accept CALLER operation r;
     }
 
 -- the record after a view of all operations was begun and ended
 abbrev pub after_view : Record → Record
-after_view r = after_end caller (begun_by caller r).view (after_begin caller r)
+after_view r = after_end CALLER (begun_by CALLER r).view (after_begin CALLER r)
 
 -- a query prints its rows over the documents that are live after all operations so far; none is
 -- left out
 abbrev pub suggest_step : ℕ → PlainQuery → Record → Step
 suggest_step line query r =
-    let upto = accepted r.history in
+    let upto = accepted r in
     record {
       reply = Some (rows line upto (rows_of query (live_documents r.journal upto)) None);
       after = after_view r;

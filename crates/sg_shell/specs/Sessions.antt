@@ -1,17 +1,17 @@
 -- What an output says of an input, for one worker and one phase. Source: this project's own; the
 -- numbers and refreshes are those of Lucene's IndexWriter and its near-real-time readers.
-use Rattle.std.specs.Prelude.{◌≡◌, ◌≤◌, ◌<◌, ◌⊎◌, ⊤, ℕ, Bool, true, false, List}
-use Rattle.std.specs.Prelude.{length, map, filter, Option, Some, None, IfSome, All, AllPairs}
+use Rattle.std.specs.Prelude.{◌≡◌, ◌≤◌, ◌<◌, ◌⊎◌, ⊤, ℕ, Bool, true, false, List, length, map}
+use Rattle.std.specs.Prelude.{filter, Option, Some, None, IfSome, All, AllPairs}
 use Rattle.std.specs.List.{filter_map, enumerate_from}
 use Rattle.sg_context.specs.Queries.{PlainQuery}
-use Rattle.sg_paths.specs.Operations.{Operation}
+use Rattle.sg_paths.specs.Operations.{PlainOp}
 use Rattle.sg_paths.specs.LiveDocuments.{live_documents}
 use Rattle.index_core.specs.declared.limits.TheConstants.{MOST_OPERATIONS}
 use Rattle.wire_json.specs.Commands.{Command, blank, accepts, suggests, refused}
 use Rattle.wire_replies.specs.Replies.{Reply, numbered, rows, failed}
 use Rattle.wire_replies.specs.Rows.{Row}
 use Rattle.wire_replies.specs.declared.error_kind.ErrorKind.TheVariants.{Full}
-use Rattle.sg_shell.specs.Answers.{rows_of}
+use Rattle.sg_shell.specs.Rows.{rows_of}
 use Rattle.sg_shell.specs.Runs.{Said, input_lines, output}
 
 -- whether a line has a reply: each that isn't blank
@@ -30,12 +30,12 @@ upto_printed (rows line upto rs cut) = Some upto
 upto_printed other = None
 
 -- an operation with its number, of a line that asks for one and prints the other
-abbrev pub with_number : Command → Option ℕ → Option (ℕ × Operation)
+abbrev pub with_number : Command → Option ℕ → Option (ℕ × PlainOp)
 with_number (accepts lane operation) (Some seq) = Some (seq, operation)
 with_number other number = None
 
 -- the operation of a line with the number that its reply prints
-abbrev pub numbered_operation : Said → Option (ℕ × Operation)
+abbrev pub numbered_operation : Said → Option (ℕ × PlainOp)
 numbered_operation e = with_number e.line.command (number_printed e.reply)
 
 -- an operation is refused because the index is full
@@ -59,13 +59,13 @@ MayReply (refused kind) line r = r ≡ failed line kind
 MayReply other line r = ⊥
 
 -- a query's rows are the first of the answer over the documents live after so many operations
-abbrev pub PrintsRows : List Operation → PlainQuery → Reply → Type 0
+abbrev pub PrintsRows : List PlainOp → PlainQuery → Reply → Type 0
 PrintsRows journal query (rows line upto rs cut) =
     rs ≡ rows_of query (live_documents journal upto)
 PrintsRows journal query other = ⊥
 
 -- where a line is a query, its rows are those
-abbrev pub IsAnswered : List Operation → Command → Reply → Type 0
+abbrev pub IsAnswered : List PlainOp → Command → Reply → Type 0
 IsAnswered journal (suggests lane query view) r = PrintsRows journal query r
 IsAnswered journal other r = ⊤
 
@@ -85,7 +85,7 @@ pub record StandsBefore (e f : Said) : Type 0 where
 
 -- One reply for each line that wants one, in order, and nothing else. The lines with a number are
 -- numbered 1 to m, and their operations are the journal.
-pub record IsSession (input out : List ℕ) (t : List Said) (journal : List Operation) : Type 0 where
+pub record IsSession (input out : List ℕ) (t : List Said) (journal : List PlainOp) : Type 0 where
   pub replied : map (λ e. e.line) t ≡ filter (λ l. wants_reply l.command) (input_lines input)
   pub written : out ≡ output t
   pub answers : All (λ e. MayReply e.line.command e.line.number e.reply) t
@@ -99,5 +99,5 @@ pub record IsSession (input out : List ℕ) (t : List Said) (journal : List Oper
 -- an output that is a session of an input, with its transcript and its journal
 pub record Session (input out : List ℕ) : Type 0 where
   pub transcript : List Said
-  pub journal : List Operation
+  pub journal : List PlainOp
   pub is_session : IsSession input out transcript journal

@@ -1,37 +1,41 @@
 //! What each line does to the core, and what it prints.
-ghost use Rattle.std.specs.Prelude.{◌≡◌, ◌<◌, ◌^◌, [], IfOk, OnOk, Some, length, option_map};
-ghost use Rattle.sg_paths.specs.Operations.{operation_of};
+ghost use Rattle.std.specs.Prelude.{◌≡◌, ◌<◌, ◌^◌, IfOk, OnOk, Some, length, option_map};
+ghost use Rattle.sg_paths.specs.Operations.{plain_op};
 ghost use Rattle.sg_paths.specs.LiveDocuments.{live_documents};
-ghost use Rattle.index_core.specs.Histories.{open_views};
+ghost use Rattle.index_core.specs.Records.{open_views};
+ghost use Rattle.index_core.specs.declared.limits.TheConstants.{MOST_OPEN_VIEWS};
 ghost use Rattle.index_core.specs.OpenViews.{operations_of};
 ghost use Rattle.wire_json.specs.Commands.{command_of};
 ghost use Rattle.wire_json.specs.CommandForms.{plain_command, IsRead};
 ghost use Rattle.wire_replies.specs.ReplyForms.{plain_reply};
-ghost use Rattle.sg_shell.specs.Answers.{rows_of};
+ghost use Rattle.sg_shell.specs.Rows.{rows_of};
 ghost use Rattle.sg_shell.specs.Runs.{accept_step, suggest_step, step, standard};
 
-use crate::answers::rows_for;
 use crate::live::live_documents;
+use crate::rows::rows_for;
 use index_core::{Core, Refused, ViewError, ViewParts, Why};
 use sg_analysis::Analyzer;
 use sg_base::List;
 use sg_context::Query;
 use sg_paths::Op;
 use std::alloc::{AllocError, Global};
-use wire_json::{Command, ErrorKind, OutRow, Reply, command};
+use wire_json::{Command, command};
+use wire_replies::{ErrorKind, OutRow, Reply};
 
 /// The number under which the program calls its index.
-pub const CALLER: u32 = 0;
+pub(crate) const CALLER: u32 = 0;
+
+/// The analyzer of the program's lines: it keeps separators.
+const STANDARD: Analyzer = Analyzer { separators: true };
 
 /// How many workers answer the lines.
-pub const LANES: u32 = 1;
+pub(crate) const LANES: u32 = 1;
 
 fn accept(core: &mut Core, line: u64, op: Op) -> Result<Reply, AllocError>
-    requires { open_views core.old.history ≡ [] }
     ensures reply { IfOk result (λ r. Some (plain_reply r)
-        ≡ (accept_step line (operation_of op) core.old).reply) }
-    ensures after { OnOk result (core.new ≡ (accept_step line (operation_of op) core.old).after) }
-    ensures closed { open_views core.new.history ≡ [] }
+        ≡ (accept_step line (plain_op op) core.old).reply) }
+    ensures after { OnOk result (core.new ≡ (accept_step line (plain_op op) core.old).after) }
+    ensures views { open_views core.new ≡ open_views core.old }
 {
     match core.accept(CALLER, op) {
         Ok(seq) => Ok(Reply::Seq { line, seq }),
@@ -58,11 +62,11 @@ fn rows_in(alloc: Global, parts: &ViewParts, query: &Query) -> Result<Vec<OutRow
 
 // The view is given back before the rows are looked at.
 fn suggest(core: &mut Core, alloc: Global, line: u64, query: &Query) -> Result<Reply, AllocError>
-    requires { open_views core.old.history ≡ [] }
+    requires { length (open_views core.old) < MOST_OPEN_VIEWS }
     ensures reply { IfOk result (λ r. Some (plain_reply r)
         ≡ (suggest_step line query.now core.old).reply) }
     ensures after { OnOk result (core.new ≡ (suggest_step line query.now core.old).after) }
-    ensures closed { open_views core.new.history ≡ [] }
+    ensures views { open_views core.new ≡ open_views core.old }
 {
     let upto = core.accepted();
     let parts = match core.begin_view(CALLER) {
@@ -81,18 +85,18 @@ fn suggest(core: &mut Core, alloc: Global, line: u64, query: &Query) -> Result<R
 }
 
 /// What a command prints as line number `line`, if it prints anything.
-pub fn step(
+fn step(
     core: &mut Core,
     alloc: Global,
     line: u64,
     command: Command,
 ) -> Result<Option<Reply>, AllocError>
-    requires closed { open_views core.old.history ≡ [] }
+    requires few { length (open_views core.old) < MOST_OPEN_VIEWS }
     requires read { IsRead (plain_command command) }
     ensures reply { IfOk result (λ r. option_map plain_reply r
         ≡ (step line (plain_command command) core.old).reply) }
     ensures after { OnOk result (core.new ≡ (step line (plain_command command) core.old).after) }
-    ensures closed { open_views core.new.history ≡ [] }
+    ensures views { open_views core.new ≡ open_views core.old }
 {
     match command {
         Command::Blank => Ok(None),
@@ -113,20 +117,20 @@ pub fn step(
 }
 
 /// What a line prints as line number `line`, if it prints anything.
-pub fn answer(
+pub(crate) fn answer(
     core: &mut Core,
     alloc: Global,
     line: u64,
     bytes: &[u8],
 ) -> Result<Option<Reply>, AllocError>
-    requires { open_views core.old.history ≡ [] }
+    requires { length (open_views core.old) < MOST_OPEN_VIEWS }
     ensures reply { IfOk result (λ r. option_map plain_reply r
         ≡ (step line (command_of standard LANES bytes.now) core.old).reply) }
     ensures after { OnOk result (core.new
         ≡ (step line (command_of standard LANES bytes.now) core.old).after) }
-    ensures closed { open_views core.new.history ≡ [] }
+    ensures views { open_views core.new ≡ open_views core.old }
 {
-    match command(alloc, bytes, LANES, &Analyzer { separators: true }) {
+    match command(alloc, bytes, LANES, &STANDARD) {
         Ok(command) => step(core, alloc, line, command),
         Err(refused) => match refused.kind() {
             Some(error) => Ok(Some(Reply::Error { line, error })),

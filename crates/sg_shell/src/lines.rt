@@ -6,13 +6,13 @@ use sg_edge::line_feed_at;
 
 /// A line, without its line feed, and what stands after it.
 #[derive(Clone, Copy)]
-pub struct Split<'b> {
+pub(crate) struct Split<'b> {
     pub line: &'b [u8],
     pub rest: &'b [u8],
 }
 
 /// The first line, where there is one. A last line without a line feed counts where it isn't empty.
-pub fn first_line(bytes: &[u8]) -> Option<Split<'_>>
+pub(crate) fn first_line(bytes: &[u8]) -> Option<Split<'_>>
     ensures first { MatchOption result
         (lines_of bytes.entry.now ≡ [])
         (λ s. lines_of bytes.entry.now ≡ s.line.now ∷ lines_of s.rest.now) }

@@ -1,13 +1,13 @@
 //! The live documents of a view, by a scan over its pieces.
 ghost use Rattle.std.specs.Prelude.{◌≡◌, ◌<◌, ◌+◌, ◌^◌, ◌++◌, ℕ, List, [], ◌∷◌, IfOk, OnOk, None};
 ghost use Rattle.std.specs.Prelude.{length, map, unwrap_or};
-ghost use Rattle.sg_paths.specs.Operations.{operation_of, documents_from};
+ghost use Rattle.sg_paths.specs.Operations.{plain_op, documents_from};
 ghost use Rattle.sg_paths.specs.LiveDocuments.{live_documents};
 ghost use Rattle.index_core.specs.OpenViews.{operations_of};
 ghost use Rattle.sg_shell.specs.LastDeletes.{number_at, delete_after, last_delete, undeleted};
 
 use index_core::Piece;
-use sg_answers::LiveDocument;
+use sg_answers::NumberedRef;
 use sg_paths::Op;
 use std::alloc::{AllocError, Global};
 use std::collections::HashMap;
@@ -17,7 +17,7 @@ type LastDeletes<'p> = HashMap<&'p str, u64>;
 
 fn mark<'p>(last: &mut LastDeletes<'p>, op: &'p Op, seq: u64) -> Result<(), AllocError>
     ensures { OnOk result ((id : List ℕ) → number_at last.new id
-        ≡ delete_after id seq (operation_of op.now) (number_at last.old id)) }
+        ≡ delete_after id seq (plain_op op.now) (number_at last.old id)) }
 {
     if let Some(id) = op.deleted_id() {
         last.insert(id, seq)?;
@@ -28,7 +28,7 @@ fn mark<'p>(last: &mut LastDeletes<'p>, op: &'p Op, seq: u64) -> Result<(), Allo
 fn mark_all<'p>(last: &mut LastDeletes<'p>, ops: &'p [Op], from: u64) -> Result<(), AllocError>
     requires { from + length ops.now < 2 ^ 64 }
     ensures { OnOk result ((id : List ℕ) → number_at last.new id
-        ≡ last_delete id from (map operation_of ops.now) (number_at last.old id)) }
+        ≡ last_delete id from (map plain_op ops.now) (number_at last.old id)) }
 {
     let mut seq = from;
     for op in ops {
@@ -74,31 +74,31 @@ fn deleted_by(last: &LastDeletes<'_>, id: &str) -> u64
 }
 
 fn push_live<'p>(
-    live: &mut Vec<LiveDocument<'p>>,
+    live: &mut Vec<NumberedRef<'p>>,
     last: &LastDeletes<'p>,
     op: &'p Op,
     seq: u64,
 ) -> Result<(), AllocError>
     ensures { OnOk result (live.new.items ≡ live.old.items
-        ++ undeleted (number_at last.now) (documents_from seq (operation_of op.now ∷ []))) }
+        ++ undeleted (number_at last.now) (documents_from seq (plain_op op.now ∷ []))) }
 {
     if let Some(document) = op.document() {
         if deleted_by(last, document.id.as_str()) <= seq {
-            live.push(LiveDocument { seq, document })?;
+            live.push(NumberedRef { seq, document })?;
         }
     }
     Ok(())
 }
 
 fn push_all_live<'p>(
-    live: &mut Vec<LiveDocument<'p>>,
+    live: &mut Vec<NumberedRef<'p>>,
     last: &LastDeletes<'p>,
     ops: &'p [Op],
     from: u64,
 ) -> Result<(), AllocError>
     requires { from + length ops.now < 2 ^ 64 }
     ensures { OnOk result (live.new.items ≡ live.old.items
-        ++ undeleted (number_at last.now) (documents_from from (map operation_of ops.now))) }
+        ++ undeleted (number_at last.now) (documents_from from (map plain_op ops.now))) }
 {
     let mut seq = from;
     for op in ops {
@@ -110,7 +110,7 @@ fn push_all_live<'p>(
 
 // Pushes the live documents of a piece, and answers the number of the next operation.
 fn push_piece_live<'p>(
-    live: &mut Vec<LiveDocument<'p>>,
+    live: &mut Vec<NumberedRef<'p>>,
     last: &LastDeletes<'p>,
     piece: &'p Piece,
     from: u64,
@@ -128,10 +128,10 @@ fn push_piece_live<'p>(
 /// The documents of the pieces that no later operation of theirs deletes, by number, where the
 /// first operation has the number 1. Two passes over all operations, and a map of the ids that are
 /// deleted.
-pub fn live_documents<'p>(
+pub(crate) fn live_documents<'p>(
     alloc: Global,
     pieces: &'p [Piece],
-) -> Result<Vec<LiveDocument<'p>>, AllocError>
+) -> Result<Vec<NumberedRef<'p>>, AllocError>
     requires { length (operations_of pieces.now) < 2 ^ 63 }
     ensures { IfOk result (λ live. live.items ≡ live_documents (operations_of pieces.now)
         (length (operations_of pieces.now))) }

@@ -5,34 +5,20 @@ ghost use Rattle.sg_shell.specs.declared.reading.ReadError.TheVariants.{Fault, M
 
 use sg_edge::{Failed, Source};
 use std::alloc::{AllocError, Global};
-use std::error::Error;
-use std::fmt;
 
 /// How many bytes an input has at most.
-pub const MOST_INPUT_BYTES: usize = 1 << 30;
+pub(crate) const MOST_INPUT_BYTES: usize = 1 << 30;
 
 /// How many bytes a take is given room for.
-pub const PIECE_BYTES: usize = 65_536;
+pub(crate) const PIECE_BYTES: usize = 65_536;
 
 /// Why an input wasn't read to its end.
 #[derive(Clone, Copy, Debug, PartialEq, Eq)]
-pub enum ReadError {
+pub(crate) enum ReadError {
     Fault,
     TooLong,
     Memory,
 }
-
-impl fmt::Display for ReadError {
-    fn fmt<W: fmt::Write>(&self, f: &mut fmt::Formatter<W>) -> fmt::Result {
-        match self {
-            ReadError::Fault => write!(f, "the source failed"),
-            ReadError::TooLong => write!(f, "the input has more than {MOST_INPUT_BYTES} bytes"),
-            ReadError::Memory => write!(f, "out of memory"),
-        }
-    }
-}
-
-impl Error for ReadError {}
 
 impl From<Failed> for ReadError {
     ghost from_gives = { λ _ e. e ≡ Fault };
@@ -52,16 +38,14 @@ impl From<AllocError> for ReadError {
 
 // Room for one take.
 fn new_piece(alloc: Global) -> Result<Vec<u8>, AllocError>
-    ensures some { IfOk result (λ piece. 0 < length piece.items) }
-    ensures within { IfOk result (λ piece. length piece.items ≤ PIECE_BYTES) }
+    ensures { IfOk result (λ piece. length piece.items ≡ PIECE_BYTES) }
 {
     vec![in alloc; 0u8; PIECE_BYTES]
 }
 
 // Reads an input, a piece at a time.
 fn read_by<S: Source>(alloc: Global, source: &mut S, piece: &mut [u8]) -> Result<Vec<u8>, ReadError>
-    requires some { 0 < length piece.old }
-    requires within { length piece.old ≤ PIECE_BYTES }
+    requires { length piece.old ≡ PIECE_BYTES }
     ensures { ReadEnds S.left S.faults S.ended source.old source.new result }
 {
     let mut input: Vec<u8> = Vec::new(alloc);
@@ -79,7 +63,7 @@ fn read_by<S: Source>(alloc: Global, source: &mut S, piece: &mut [u8]) -> Result
 
 /// The bytes of a source, read to its end by takes of 65,536 bytes. After an error what was taken
 /// is gone: up to 2^30 bytes, or for `TooLong` up to 65,536 more.
-pub fn read_input<S: Source>(alloc: Global, source: &mut S) -> Result<Vec<u8>, ReadError>
+pub(crate) fn read_input<S: Source>(alloc: Global, source: &mut S) -> Result<Vec<u8>, ReadError>
     ensures { ReadEnds S.left S.faults S.ended source.old source.new result }
 {
     let mut piece = new_piece(alloc)?;

@@ -7,7 +7,7 @@ use crate::engine::answer;
 use crate::lines::first_line;
 use index_core::Core;
 use std::alloc::{AllocError, Global};
-use wire_json::{Reply, reply};
+use wire_replies::{Reply, reply};
 
 fn push_reply(
     alloc: Global,
@@ -26,7 +26,7 @@ fn push_reply(
 
 /// The replies to the lines of an input, in order. Time and memory are linear in the input and the
 /// output, beside what each query takes.
-pub fn replies_to(alloc: Global, input: &[u8]) -> Result<Vec<u8>, AllocError>
+pub(crate) fn replies_to(alloc: Global, input: &[u8]) -> Result<Vec<u8>, AllocError>
     requires { length input.now ≤ 2 ^ 30 }
     ensures { IfOk result (λ output. output.items ≡ output_of input.now) }
 {

@@ -1,48 +1,9 @@
-//! The program: gives the arguments, standard input and standard output to `run`, and says on
-//! standard error how it ended where it didn't end well.
+//! The program: `run_program` on this machine's arguments and streams.
 #![tactic(auto)]
 
-use sg_base::Text;
-use sg_edge::{StdSink, StdSource};
-use sg_shell::{Status, run};
-use std::env::Env;
-use std::io::ErrorKind;
+use sg_shell::run_program;
 use std::process::ExitCode;
-use std::{env, io};
-
-// The arguments after the program's name.
-fn arguments(rt: &(impl Env + AllocGlobal)) -> io::Result<Vec<Text>> {
-    let mut words = Vec::new(rt.alloc());
-    for word in env::args(rt)?.skip(1) {
-        words.push(Text::of(rt.alloc(), word.as_str())?)?;
-    }
-    Ok(words)
-}
-
-// An argument that isn't UTF-8 has no reading.
-fn unread(error: &io::Error) -> Status {
-    if error.kind() == ErrorKind::OutOfMemory {
-        Status::Memory
-    } else {
-        Status::Usage
-    }
-}
-
-fn status<R: Env + Input + Print + AllocGlobal>(rt: &R) -> Status {
-    let words = match arguments(rt) {
-        Ok(words) => words,
-        Err(error) => return unread(&error),
-    };
-    let mut source = StdSource::new(rt.reader());
-    let mut sink = StdSink::new(io::writer(rt));
-    run(rt.alloc(), words.as_slice(), &mut source, &mut sink)
-}
 
 fn main(rt: HostRuntime) -> ExitCode {
-    let status = status(&rt);
-    if let Some(message) = status.message() {
-        // A message that can't be written leaves the status to tell of the end.
-        let _ = eprintln!(rt; "{message}");
-    }
-    ExitCode::from(status.code())
+    ExitCode::from(run_program(&rt))
 }

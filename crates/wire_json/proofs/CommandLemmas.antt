@@ -8,9 +8,9 @@ use Rattle.serde_json.specs.Data.{Data}
 use Rattle.serde_json.specs.Read.{read}
 use Rattle.sg_analysis.specs.declared.analyzer.Analyzer.{Analyzer}
 use Rattle.sg_context.specs.Queries.{PlainQuery}
-use Rattle.sg_context.specs.declared.limits.TheConstants.{DEFAULT_K}
+use Rattle.wire_json.specs.declared.limits.TheConstants.{DEFAULT_K}
 use Rattle.sg_paths.specs.Documents.{PlainDocument}
-use Rattle.sg_paths.specs.Operations.{Operation}
+use Rattle.sg_paths.specs.Operations.{PlainOp}
 use Rattle.wire_json.specs.Suggested.{Entry, entries_of}
 use Rattle.wire_json.specs.LineErrors.{Keyed, input_key, prefix_key, keys_of, errors_by, used}
 use Rattle.wire_json.specs.LineErrors.{first_that_applies, error_of_form}
@@ -91,7 +91,7 @@ pub command_of_text-by : (analyzer : Analyzer) (lanes : ℕ) (line : List ℕ) (
 command_of_text-by analyzer lanes line d is = rw is refl
 
 pub command_by_form-change : (analyzer : Analyzer) (lanes : ℕ) (how : Change)
-    (lane : Option Data) (id : List ℕ) (ds : List Data) (l : ℕ) (o : Operation) (d : PlainDocument)
+    (lane : Option Data) (id : List ℕ) (ds : List Data) (l : ℕ) (o : PlainOp) (d : PlainDocument)
     → l ≡ lane_or_first lanes lane → o ≡ operation_by how d → d ≡ document_of analyzer id ds
     → command_by_form analyzer lanes (change how lane id ds) ≡ accepts l o
 command_by_form-change analyzer lanes how lane id ds l o d at is document =

@@ -5,7 +5,8 @@ use Rattle.std.specs.List.{list_any, list_all, All}
 use Rattle.std.proofs.lemmas.Bool.{or_parts}
 use Rattle.std.proofs.lemmas.List.Folds.{list_any-append}
 use Rattle.serde_json.specs.Data.{Data}
-use Rattle.sg_analysis.specs.Analysis.{Analysis, reserved, empty, too_long, key, analysis_of}
+use Rattle.sg_analysis.specs.Analysis.{Analysis, analysis_of}
+use Rattle.sg_analysis.specs.declared.analyzer.KeyError.TheVariants as none
 use Rattle.sg_analysis.specs.declared.analyzer.Analyzer.{Analyzer}
 use Rattle.sg_paths.specs.declared.limits.TheConstants.{MOST_TEXT_BYTES}
 use Rattle.wire_json.specs.Suggested.{Entry, entry_of, entries_in, entries_of, texts_of}
@@ -35,10 +36,10 @@ no_entry p (d ∷ ds) none =
 
 keyed_text : (text : List ℕ) (analysis : Analysis) (k : List ℕ) → keyed_by text analysis ≡ Ok k
     → length text ≤ MOST_TEXT_BYTES
-keyed_text text (reserved byte at) k is = grind arith
-keyed_text text empty k is = grind arith
-keyed_text text (too_long bytes) k is = grind arith
-keyed_text text (key j) k is = grind arith
+keyed_text text (Ok j) k is = grind arith
+keyed_text text (Err (none.Reserved byte at)) k is = grind arith
+keyed_text text (Err none.Empty) k is = grind arith
+keyed_text text (Err other) k is = grind arith
 
 -- a key without a fault is one
 has_key : (r : Keyed) → is_refused_as_empty r ≡ false → is_refused_as_reserved r ≡ false

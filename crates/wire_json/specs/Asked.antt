@@ -12,7 +12,8 @@ use Rattle.sg_base.specs.declared.limits.TheConstants.{MOST_BOOST}
 use Rattle.sg_context.specs.Boosts.{PlainQueryContext}
 use Rattle.sg_context.specs.declared.limits.TheConstants.{LEAST_BOOST, DEFAULT_BOOST, LEAST_K}
 use Rattle.sg_context.specs.declared.limits.TheConstants.{MOST_K}
-use Rattle.sg_context.specs.declared.limits.TheConstants.{DEFAULT_K, MOST_QUERY_CONTEXTS}
+use Rattle.sg_context.specs.declared.limits.TheConstants.{MOST_QUERY_CONTEXTS}
+use Rattle.wire_json.specs.declared.limits.TheConstants.{DEFAULT_K}
 use Rattle.wire_json.specs.Members.{member_of, text_of, whole_of}
 use Rattle.wire_json.specs.Suggested.{has_reserved_byte, has_context_length}
 

@@ -1,6 +1,6 @@
 -- The code's commands and errors as plain data. Source: this project's own.
-use Rattle.std.specs.Prelude.{◌≡◌, Option, Some, None, ⊤, IfSome}
-use Rattle.sg_paths.specs.Operations.{operation_of}
+use Rattle.std.specs.Prelude.{◌≡◌, ℕ, false, List, Option, Some, None, ⊤, IfSome}
+use Rattle.sg_paths.specs.Operations.{plain_op}
 use Rattle.wire_json.specs.Commands as plain
 use Rattle.wire_replies.specs.declared.error_kind.ErrorKind.{ErrorKind}
 use Rattle.wire_replies.specs.declared.error_kind.ErrorKind.TheVariants as kinds
@@ -13,7 +13,7 @@ use Rattle.wire_json.specs.declared.commands.Command.TheVariants.{CloseView, Flu
 -- a command as plain data
 abbrev pub plain_command : Command → plain.Command
 plain_command Blank = plain.blank
-plain_command (Accept lane op) = plain.accepts lane (operation_of op)
+plain_command (Accept lane op) = plain.accepts lane (plain_op op)
 plain_command (Suggest lane query view) = plain.suggests lane query view
 plain_command (OpenView lane name) = plain.opens lane name
 plain_command (CloseView lane name) = plain.closes lane name
@@ -37,9 +37,15 @@ kind_of errors.Boost = Some kinds.Boost
 kind_of errors.K = Some kinds.K
 kind_of errors.Memory = None
 
--- a line is refused with its own error; want of memory may come at any line
+-- a line is refused with its own error, or for want of memory
 abbrev pub Refuses : plain.Command → LineError → Type 0
 Refuses command error = IfSome (kind_of error) (λ kind. command ≡ plain.refused kind)
+
+-- want of memory comes only at a line that is neither long nor blank: those take none
+abbrev pub MayWantMemory : List ℕ → LineError → Type 0
+MayWantMemory line errors.Memory =
+    (plain.is_long line ≡ false) × (plain.is_blank line ≡ false)
+MayWantMemory line other = ⊤
 
 -- the commands that a line may ask for: the other words aren't read
 abbrev pub IsRead : plain.Command → Type 0

@@ -9,9 +9,8 @@ use Rattle.serde_json.specs.Data.{Data}
 use Rattle.serde_json.specs.Read.{read}
 use Rattle.sg_analysis.specs.declared.analyzer.Analyzer.{Analyzer}
 use Rattle.sg_context.specs.Queries.{PlainQuery}
-use Rattle.sg_context.specs.declared.limits.TheConstants.{DEFAULT_K}
 use Rattle.sg_paths.specs.Documents.{PlainSuggestion, PlainDocument}
-use Rattle.sg_paths.specs.Operations.{Operation, adds, updates, deletes}
+use Rattle.sg_paths.specs.Operations.{PlainOp, adds, updates, deletes}
 use Rattle.wire_json.specs.Suggested.{Entry, entries_of, weight_of, contexts_given}
 use Rattle.wire_json.specs.Suggested.{context_given}
 use Rattle.wire_json.specs.Asked.{QueryOptions, query_context_of, rows_asked}
@@ -19,7 +18,7 @@ use Rattle.wire_json.specs.Forms.{Form, change, delete, suggest, form_of}
 use Rattle.wire_json.specs.LineErrors.{Keyed, input_key, prefix_key, lane_of, error_of_form}
 use Rattle.wire_json.specs.declared.forms.Change.{Change}
 use Rattle.wire_json.specs.declared.forms.Change.TheVariants.{Add, Update}
-use Rattle.wire_json.specs.declared.limits.TheConstants.{MOST_LINE_BYTES, DEFAULT_WEIGHT}
+use Rattle.wire_json.specs.declared.limits.TheConstants.{MOST_LINE_BYTES, DEFAULT_WEIGHT, DEFAULT_K}
 use Rattle.wire_replies.specs.declared.error_kind.ErrorKind.{ErrorKind}
 use Rattle.wire_replies.specs.declared.error_kind.ErrorKind.TheVariants.{Long, Json, Shape}
 
@@ -27,7 +26,7 @@ use Rattle.wire_replies.specs.declared.error_kind.ErrorKind.TheVariants.{Long, J
 -- words; or the error of the line itself
 pub data Command : Type 0 where
   blank : Command
-  accepts : ℕ → Operation → Command
+  accepts : ℕ → PlainOp → Command
   suggests : ℕ → PlainQuery → Option (List ℕ) → Command
   opens : ℕ → List ℕ → Command
   closes : ℕ → List ℕ → Command
@@ -61,7 +60,7 @@ document_of analyzer id ds =
     record { id = id; suggestions = map (suggestion_of analyzer) (entries_of ds) }
 
 -- the operation that brings a document in
-abbrev pub operation_by : Change → PlainDocument → Operation
+abbrev pub operation_by : Change → PlainDocument → PlainOp
 operation_by Add d = adds d
 operation_by Update d = updates d
 

@@ -8,7 +8,8 @@ use Rattle.std.specs.List.{list_any}
 use Rattle.std.specs.declared.result.Result.{Result}
 use Rattle.std.specs.declared.result.Result.TheVariants.{Ok, Err}
 use Rattle.serde_json.specs.Data.{Data}
-use Rattle.sg_analysis.specs.Analysis.{Analysis, reserved, empty, too_long, key, analysis_of}
+use Rattle.sg_analysis.specs.Analysis.{Analysis, analysis_of}
+use Rattle.sg_analysis.specs.declared.analyzer.KeyError.TheVariants as none
 use Rattle.sg_analysis.specs.declared.analyzer.Analyzer.{Analyzer}
 use Rattle.sg_paths.specs.Documents.{is_id}
 use Rattle.sg_paths.specs.declared.limits.TheConstants.{MOST_TEXT_BYTES}
@@ -31,10 +32,10 @@ Keyed = Result (List ℕ) KeyFault
 
 -- the key of a text of at most 1,024 bytes
 abbrev pub keyed_by : List ℕ → Analysis → Keyed
-keyed_by text (reserved byte at) = Err faults.Reserved
-keyed_by text empty = Err faults.Empty
-keyed_by text (too_long bytes) = Err faults.TooLong
-keyed_by text (key k) = if nat_le (length text) MOST_TEXT_BYTES then Ok k else Err faults.TooLong
+keyed_by text (Ok k) = if nat_le (length text) MOST_TEXT_BYTES then Ok k else Err faults.TooLong
+keyed_by text (Err (none.Reserved byte at)) = Err faults.Reserved
+keyed_by text (Err none.Empty) = Err faults.Empty
+keyed_by text (Err other) = Err faults.TooLong
 
 -- the key of an input, which is analysed with the cut
 abbrev pub input_key : Analyzer → List ℕ → Keyed

@@ -9,13 +9,12 @@ ghost use Rattle.wire_json.specs.Asked.{rows_asked, asks_for_reserved_context, i
 ghost use Rattle.wire_json.specs.Asked.{query_contexts_are_wrong};
 ghost use Rattle.wire_json.specs.Asked.{has_wrong_boost};
 
+use crate::limits::DEFAULT_K;
 use crate::members::{member, text, whole};
 use crate::suggested::{has_context_length, has_reserved_byte};
 use serde_json::Value;
 use sg_base::MOST_BOOST;
-use sg_context::{
-    Boost, DEFAULT_BOOST, DEFAULT_K, LEAST_BOOST, LEAST_K, MOST_K, MOST_QUERY_CONTEXTS,
-};
+use sg_context::{Boost, DEFAULT_BOOST, LEAST_BOOST, LEAST_K, MOST_K, MOST_QUERY_CONTEXTS};
 
 fn whole_within(value: &Value, least: u32, most: u32) -> Option<u32>
     ensures value { result ≡ whole_within least most (view value.now) }

@@ -5,11 +5,11 @@ ghost use Rattle.sg_base.specs.declared.limits.TheConstants.{MOST_WEIGHT};
 ghost use Rattle.std.specs.List.{filter_map, list_any, list_all};
 ghost use Rattle.serde_json.specs.View.{view};
 ghost use Rattle.sg_paths.specs.Documents.{is_id};
-ghost use Rattle.sg_paths.specs.Operations.{operation_of};
+ghost use Rattle.sg_paths.specs.Operations.{plain_op};
 ghost use Rattle.sg_paths.specs.declared.limits.TheConstants.{MOST_TEXT_BYTES, MOST_CONTEXTS};
 ghost use Rattle.sg_paths.specs.declared.limits.TheConstants.{MOST_SUGGESTIONS};
 ghost use Rattle.wire_json.specs.Suggested.{is_reserved_context, is_context_text};
-ghost use Rattle.sg_context.specs.declared.limits.TheConstants.{DEFAULT_K};
+ghost use Rattle.wire_json.specs.declared.limits.TheConstants.{DEFAULT_K};
 ghost use Rattle.wire_json.specs.Suggested.{has_context_length, has_reserved_byte, context_given};
 ghost use Rattle.wire_json.specs.Asked.{is_query_context, asks_for_reserved_context};
 ghost use Rattle.wire_json.specs.Asked.{has_wrong_boost, rows_asked};
@@ -156,7 +156,7 @@ pub fn document(
 
 /// A document that comes in.
 pub fn operation(how: Change, document: Document) -> Op
-    ensures { operation_of result ≡ operation_by how document }
+    ensures { plain_op result ≡ operation_by how document }
 {
     match how {
         Change::Add => Op::Add(document),

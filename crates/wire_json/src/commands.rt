@@ -1,4 +1,4 @@
-//! Commands.
+//! What lines ask for.
 use sg_base::Text;
 use sg_context::Query;
 use sg_paths::Op;

@@ -1,5 +1,5 @@
 //! From a line of input to its command. Contracts see a line as bytes, a command as plain data, and
-//! JSON by `serde_json`'s definitions. Replies and their lines are handed on from `wire_replies`.
+//! JSON by `serde_json`'s definitions.
 #![tactic(auto)]
 
 mod asked;
@@ -16,9 +16,7 @@ mod suggested;
 
 pub use commands::Command;
 pub use errors::LineError;
-pub use limits::{DEFAULT_WEIGHT, MOST_LINE_BYTES, MOST_WEIGHT_DIGITS};
+pub use limits::{
+    DEFAULT_K, DEFAULT_WEIGHT, MOST_LINE_BYTES, MOST_WEIGHT_DIGITS, limits_are_exact,
+};
 pub use reading::command;
-pub use wire_replies::{ErrorKind, OutRow, Reply, reply};
-
-#[cfg(test)]
-mod tests;

@@ -1,4 +1,6 @@
 //! The limits and defaults of lines.
+ghost use Rattle.wire_json.specs.Limits.{AreLimits};
+
 use sg_base::Weight;
 
 /// The most bytes of a line, without its line feed.
@@ -9,3 +11,11 @@ pub const MOST_WEIGHT_DIGITS: usize = 20;
 
 /// The weight of a suggestion that gives none.
 pub const DEFAULT_WEIGHT: Weight = 1;
+
+/// The rows of a query that gives no number.
+pub const DEFAULT_K: u32 = 5;
+
+/// Each limit and default is the number that is documented.
+pub fn limits_are_exact()
+    ensures { AreLimits }
+{}

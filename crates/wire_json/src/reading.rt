@@ -5,7 +5,7 @@ ghost use Rattle.serde_json.specs.View.{view};
 ghost use Rattle.wire_json.specs.Forms as plain;
 ghost use Rattle.wire_json.specs.Commands.{command_of_form, command_of_value, command_of_text};
 ghost use Rattle.wire_json.specs.Commands.{is_blank_byte, is_blank, command_of};
-ghost use Rattle.wire_json.specs.CommandForms.{plain_command, Refuses, IsRead};
+ghost use Rattle.wire_json.specs.CommandForms.{plain_command, Refuses, MayWantMemory, IsRead};
 ghost use Rattle.wire_json.specs.ReadForms.{plain_change, plain_query, plain_form, EntriesFit};
 ghost use Rattle.wire_json.specs.ReadForms.{HasItsEntries};
 
@@ -177,6 +177,7 @@ pub fn command(
 ) -> Result<Command, LineError>
     ensures ok { IfOk result (λ c. command_of analyzer.now lanes line.now ≡ plain_command c) }
     ensures refused { IfErr result (Refuses (command_of analyzer.now lanes line.now)) }
+    ensures memory { IfErr result (MayWantMemory line.now) }
     ensures read { IfOk result (λ c. IsRead (plain_command c)) }
 {
     if line.len() > MOST_LINE_BYTES {

@@ -1,6 +1,7 @@
 //! The errors that lines are answered.
+ghost use Rattle.std.specs.Prelude.{◌≡◌};
+ghost use Rattle.wire_replies.specs.Replies.{error_name};
 
-use crate::error_names::error_name;
 use std::fmt;
 
 /// Why a line is refused, in the order in which it is tested.
@@ -39,8 +40,33 @@ pub enum ErrorKind {
     Views,
 }
 
+impl ErrorKind {
+    /// The error's name in a reply.
+    pub fn name(self) -> &'static str
+        ensures { result.now ≡ error_name self }
+    {
+        match self {
+            ErrorKind::Long => "long",
+            ErrorKind::Json => "json",
+            ErrorKind::Shape => "shape",
+            ErrorKind::Lane => "lane",
+            ErrorKind::Id => "id",
+            ErrorKind::Empty => "empty",
+            ErrorKind::Weight => "weight",
+            ErrorKind::Reserved => "reserved",
+            ErrorKind::Key => "key",
+            ErrorKind::Contexts => "contexts",
+            ErrorKind::Boost => "boost",
+            ErrorKind::K => "k",
+            ErrorKind::View => "view",
+            ErrorKind::Full => "full",
+            ErrorKind::Views => "views",
+        }
+    }
+}
+
 impl fmt::Display for ErrorKind {
     fn fmt<W: fmt::Write>(&self, f: &mut fmt::Formatter<W>) -> fmt::Result {
-        f.write_str(error_name(*self))
+        f.write_str(self.name())
     }
 }

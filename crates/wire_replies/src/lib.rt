@@ -3,13 +3,9 @@
 #![tactic(auto)]
 
 mod error_kind;
-mod error_names;
 mod replies;
 mod reply_lines;
 
 pub use error_kind::ErrorKind;
 pub use replies::{OutRow, Reply};
 pub use reply_lines::{replies_with_the_same_data_are_the_same, reply};
-
-#[cfg(test)]
-mod tests;

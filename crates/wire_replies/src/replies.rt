@@ -1,4 +1,4 @@
-//! Replies.
+//! What lines are answered.
 
 use crate::error_kind::ErrorKind;
 use sg_base::{Cut, List, Text};

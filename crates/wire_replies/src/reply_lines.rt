@@ -10,7 +10,6 @@ ghost use Rattle.wire_replies.specs.Replies.{opened_data};
 ghost use Rattle.wire_replies.specs.ReplyForms.{plain_reply};
 ghost use Rattle.wire_replies.specs.WrittenReplies.{IsLine, read_line, DataTellTheReply};
 
-use crate::error_names::error_name;
 use crate::replies::{OutRow, Reply};
 use serde_json::{Value, json};
 use sg_base::Cut;
@@ -148,7 +147,7 @@ fn reply_value(alloc: Global, reply: &Reply) -> Result<Value, AllocError>
         Reply::Built { line, count } => built_value(alloc, *line, *count),
         Reply::Merged { line, count } => merged_value(alloc, *line, *count),
         Reply::Accepted { line, count } => accepted_value(alloc, *line, *count),
-        Reply::Error { line, error } => failed_value(alloc, *line, error_name(*error)),
+        Reply::Error { line, error } => failed_value(alloc, *line, error.name()),
     }
 }
 

@@ -1,6 +1,8 @@
--- So far the first pieces are shared.
-use Rattle.std.proofs.Common.{◌≡◌, take}
+-- So far the first slots are shared.
+use Rattle.std.proofs.Common.{◌≡◌, take, map}
+use Rattle.index_core.specs.Fields.{slot_piece}
 use Rattle.index_core.proofs.sharing.shared_pieces.Given as goal
 
-abbrev pub invariant-loop-piece : goal.invariant-loop-piece
-invariant-loop-piece l = l.copies.items ≡ take l.piece-index l.pieces
+abbrev pub invariant-loop-slot : goal.invariant-loop-slot
+invariant-loop-slot l =
+    l.copies.items ≡ map (slot_piece (map (λ b. b.value) l.batches)) (take l.slot-index l.slots)

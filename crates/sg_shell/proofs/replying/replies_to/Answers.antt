@@ -1,5 +1,5 @@
 -- One more line, with what it prints.
-use Rattle.std.proofs.Common.{◌+◌, arith}
+use Rattle.std.proofs.Common.{◌+◌, ◌∙◌, arith}
 use Rattle.sg_shell.proofs.ReplyLemmas.{output-more}
 use Rattle.sg_shell.proofs.replying.replies_to.Goals as goal
 
@@ -12,5 +12,5 @@ loop-split-preserved c =
           c.in-Some.split.line.now c.in-Some.split.rest.now _
           c.in-Some.ensures.first answered.reply answered.after so_far.0),
       omega (arith, c.in-Some.ensures.shorter, so_far.1),
-      answered.closed,
+      answered.views ∙ so_far.2,
     )

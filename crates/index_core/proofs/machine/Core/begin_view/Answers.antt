@@ -1,103 +1,139 @@
--- Each way out keeps the fields' facts, and its record is the definition's.
-use Rattle.std.proofs.Common.{◌≡◌, ℕ, ◌+◌, List, [], ◌∷◌, ◌++◌, map, refl, sym, ◌∙◌, ap, arith}
-use Rattle.std.proofs.lemmas.List.{length-map}
+-- Each step of the store leaves it kept, and what is shared beforehand is what the view has.
+use Rattle.std.proofs.Common.{◌≡◌, ℕ, ◌+◌, sym, ◌∙◌, ap, arith, nat_lt, length, refl, map, List, []}
+use Rattle.std.proofs.Common.{◌∷◌, ◌++◌}
+use Rattle.index_core.specs.OpenViews.{PlainPiece, view_of}
+use Rattle.index_core.specs.Fields.{all_pieces, Stored, IsKept, record_of, with_closed, with_places}
 use Rattle.std.proofs.lemmas.List.Elements.{Contains-push}
-use Rattle.std.specs.Vec.{vec_capacity}
-use Rattle.index_core.specs.Histories.{begin, event_of, Record, open_views}
-use Rattle.index_core.specs.OpenViews.{view_of}
+use Rattle.index_core.specs.Histories.{Record, View, open_views}
 use Rattle.index_core.specs.Calls.{after_freeze}
-use Rattle.index_core.specs.Representation.{Kept, IsKept, record_of, stored, with_views}
 use Rattle.index_core.proofs.ViewLemmas.{open_views-after_freeze}
-use Rattle.index_core.proofs.ViewingLemmas.{new_view}
-use Rattle.index_core.proofs.MachineLemmas.{after_room, still, stepped, begin_after, Begins}
-use Rattle.index_core.proofs.MachineLemmas.{opens_view}
+use Rattle.index_core.proofs.KeptLemmas.{with_room}
+use Rattle.index_core.proofs.ViewingLemmas.{freezes_all, Frozen, begins, Begins}
 use Rattle.index_core.proofs.machine.Core.begin_view.Goals as goal
 
 pub invariant_of-self : goal.invariant_of-self
-invariant_of-self c = (
-  c.make_room.ensures.one,
-  after_room c.self.invariant.1 _ _ _ (ap (map event_of) c.make_room.ensures.events_stay)
-      c.make_room.ensures.same c.make_room.ensures.places_stay,
-)
+invariant_of-self c =
+    rw c.reserve.ensures.same
+    (with_room c.self.invariant c.self.inside.store.closed c.reserve.new.self.places
+    c.reserve.ensures.more)
 
-pub invariant_of-self-in_err-shares : goal.invariant_of-self-in_err-shares
-invariant_of-self-in_err-shares c =
-    let room = length-map c.make_room.new.events.items event_of in (
-      c.share_all.ensures.one,
-      (stepped c.self.invariant.1 c.self.view_is (still c.in_err-shares.ensures.err)
-          (ap (map event_of) c.make_room.ensures.events_stay) refl c.make_room.ensures.same refl
-          c.make_room.ensures.places_stay (omega (arith, c.in_ok-make_room.ensures.event_room))).0,
-    )
+pub invariant_of-self-in_err-close : goal.invariant_of-self-in_err-close
+invariant_of-self-in_err-close c =
+    rw (c.close.ensures.same, c.reserve.ensures.same)
+    (with_room c.self.invariant c.close.new.self.closed c.reserve.new.self.places
+    c.reserve.ensures.more)
 
--- the fields once all is frozen
-abbrev fields_frozen : goal.After-begin → Kept
-fields_frozen c =
-    with_views (stored c.share_all.new.events c.share_all.new.pieces c.share_all.new.unshared
-    c.share_all.new.buffered c.share_all.new.frozen) c.self.inside.begun c.self.inside.opened
+pub invariant_of-self-in_err-parts : goal.invariant_of-self-in_err-parts
+invariant_of-self-in_err-parts c =
+    rw (c.close.ensures.same, c.reserve.ensures.same)
+    (with_room c.self.invariant c.close.new.self.closed c.reserve.new.self.places
+    c.reserve.ensures.more)
 
-kept_frozen : (c : goal.After-begin)
-    → IsKept (fields_frozen c)
-    × (record_of (fields_frozen c) ≡ after_freeze c.args.caller c.args.self.now)
-kept_frozen c =
-    let room = length-map c.make_room.new.events.items event_of in
-    stepped c.self.invariant.1 c.self.view_is c.in_ok-shares.ensures.ok
-    (ap (map event_of) c.make_room.ensures.events_stay) refl c.make_room.ensures.same refl
-    c.make_room.ensures.places_stay (omega (arith, c.in_ok-make_room.ensures.event_room))
+pub invariant_of-self-in_default : goal.invariant_of-self-in_default
+invariant_of-self-in_default c =
+    rw (c.close.ensures.same, c.reserve.ensures.same)
+    (with_room c.self.invariant c.close.new.self.closed c.reserve.new.self.places
+    c.reserve.ensures.more)
 
-begins : (c : goal.After-begin)
-    → Begins (fields_frozen c) c.args.caller (map event_of c.begin.new.events.items)
-    (vec_capacity c.begin.new.events) c.args.self.now
-begins c =
-    let all_events = length-map c.share_all.new.events.items event_of in
-    begin_after (kept_frozen c).0 c.args.caller _ _ c.args.self.now (sym (kept_frozen c).1)
-    (rw c.in_ok-shares.ensures.none (rw c.in_ok-shares.ensures.emptied refl))
-    (c.begin.ensures.event
-    ∙ ap (λ (gs : List ℕ). map event_of c.share_all.new.events.items
-    ++ begin c.args.caller (c.self.inside.begun + 1) c.share_all.new.frozen gs ∷ [])
-    c.in_ok-shares.ensures.held)
-    (omega arith)
+-- the store once all that is buffered is closed
+closed_is : (c : goal.After-begin)
+    → c.close.new.self
+    ≡ with_closed c.close.new.self.closed
+    (with_places c.reserve.new.self.places c.self.inside.store)
+closed_is c = c.close.ensures.same ∙ ap (with_closed c.close.new.self.closed) c.reserve.ensures.same
+
+shut : (c : goal.After-begin) → IsKept c.close.new.self
+shut c =
+    rw (c.close.ensures.same, c.reserve.ensures.same)
+    (with_room c.self.invariant c.close.new.self.closed c.reserve.new.self.places
+    c.reserve.ensures.more)
+
+frozen : (c : goal.After-begin) → Frozen c.close.new.self c.freeze_all.new.self c.args.caller
+frozen c =
+    let same = closed_is c in
+    let history = ap (λ (s : Stored). length s.history) same in
+    let places = ap (λ (s : Stored). s.places) same in
+    let opened = ap (λ (s : Stored). s.open_count) same in
+    let before = ap (λ (s : Stored). length s.history) c.reserve.ensures.same in
+    let count = c.opened-opened.ensures in
+    rw c.freeze_all.ensures
+    (freezes_all (shut c) c.args.caller c.close.new.self.closed refl
+    (c.in_ok-close.ensures.ok
+    ∙ ap (λ (s : Stored). nat_lt 0 (length s.buffer)) (sym c.close.ensures.same))
+    (omega (arith, history, places, opened, before, count, c.in_ok-reserve.ensures.ok)))
+
+frozen_is : (c : goal.After-begin)
+    → record_of c.freeze_all.new.self ≡ after_freeze c.args.caller c.args.self.now
+frozen_is c =
+    (frozen c).left.record_is
+    ∙ ap (after_freeze c.args.caller) (ap record_of (closed_is c) ∙ c.self.view_is)
+
+left : (c : goal.After-begin)
+    → Begins c.freeze_all.new.self c.begin.new.self c.args.caller c.args.self.now
+    c.in_ok-parts.parts
+left c =
+    let f = frozen c in
+    let e = c.in_ok-parts.ensures in
+    let parts = c.in_ok-parts.parts in
+    let shut = c.close.new.self in
+    let same = closed_is c in
+    let history = ap (λ (s : Stored). length s.history) same in
+    let places = ap (λ (s : Stored). s.places) same in
+    let opened = ap (λ (s : Stored). s.open_count) same in
+    let before = ap (λ (s : Stored). length s.history) c.reserve.ensures.same in
+    let count = c.opened-opened.ensures in
+    let gens : map (λ piece. piece.generation) (all_pieces shut)
+    ≡ map (λ piece. piece.generation) c.freeze_all.new.self.pieces =
+    ap (map (λ (p : PlainPiece). p.generation)) (sym f.pieces) in
+    rw c.begin.ensures
+    (begins f.left.kept c.args.caller c.args.self.now c.in-Ok.gens.items parts (frozen_is c) f.none
+    (omega (arith, f.opened, opened, count))
     (omega (
       arith,
-      c.in_ok-make_room.ensures.event_room,
-      c.in_ok-shares.ensures.one_event,
-      c.share_all.ensures.places,
+      f.long,
+      f.places,
+      f.opened,
+      history,
+      places,
+      opened,
+      before,
+      count,
+      c.in_ok-reserve.ensures.ok,
     ))
-
-parts_are : (c : goal.After-begin)
-    → c.begin.result ≡ record {
-      view = c.self.inside.begun + 1;
-      upto = c.share_all.new.frozen;
-      pieces = c.share_all.new.pieces.items;
-      generations = map (λ piece. piece.generation) c.share_all.new.pieces.items;
-    }
-parts_are c =
-    let pieces = c.in_ok-shares.ensures.pieces in
-    let gens = c.in_ok-shares.ensures.gens in c.begin.ensures.parts ∙ rw pieces (rw gens refl)
+    (c.in-Ok.ensures ∙ ap (map (λ (p : PlainPiece). p.generation)) (e.pieces ∙ sym f.pieces))
+    (e.view ∙ ap (λ (n : ℕ). n + 1) (sym f.begun)) (e.upto ∙ sym f.upto) (e.pieces ∙ sym f.pieces)
+    (e.gens ∙ gens))
 
 pub invariant_of-self-2 : goal.invariant_of-self-2
-invariant_of-self-2 c = (c.share_all.ensures.one, (begins c).kept)
+invariant_of-self-2 c = (left c).kept
 
 pub returns-clause-view : goal.returns-clause-view
-returns-clause-view c = ap (view_of c.args.caller) (parts_are c) ∙ (begins c).view
+returns-clause-view c = (left c).view
 
 pub returns-clause-held : goal.returns-clause-held
-returns-clause-held c = rw (parts_are c) ((begins c).held (c.self.inside.begun + 1))
+returns-clause-held c = (left c).held
 
 pub returns-clause-ok : goal.returns-clause-ok
-returns-clause-ok c = (begins c).after
+returns-clause-ok c = (left c).after
 
 pub returns-clause-opened : goal.returns-clause-opened
 returns-clause-opened c =
-    opens_view (begins c) c.args.self.now c.begin.result
-    (ap (λ (r : Record). open_views r.history) (kept_frozen c).1
+    (left c).is_opened
+    ∙ ap (λ (vs : List View). vs ++ view_of c.args.caller c.in_ok-parts.parts ∷ [])
+    (ap (λ (r : Record). open_views r.history) (frozen_is c)
     ∙ open_views-after_freeze c.args.caller c.args.self.now)
-    (ap (view_of c.args.caller) (parts_are c))
 
 pub returns-clause-begun : goal.returns-clause-begun
 returns-clause-begun c =
-    rw (parts_are c) (rw (begins c).is_opened
-    (Contains-push (open_views (fields_frozen c).history)
-    (new_view (fields_frozen c) c.args.caller)))
+    rw (left c).is_opened
+    (Contains-push (open_views c.freeze_all.new.self.history)
+    (view_of c.args.caller c.in_ok-parts.parts))
 
 pub returns-clause-legal : goal.returns-clause-legal
-returns-clause-legal c = (begins c).kept.legal
+returns-clause-legal c = (left c).kept.legal
+
+pub returns-clause-others : goal.returns-clause-others
+returns-clause-others c =
+    (left c).others
+    ∙ (ap (λ (r : Record). open_views r.history) (frozen_is c)
+    ∙ open_views-after_freeze c.args.caller c.args.self.now)

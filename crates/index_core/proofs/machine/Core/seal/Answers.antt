@@ -1,49 +1,45 @@
--- Each way out keeps the fields' facts, and its record is the definition's.
-use Rattle.std.proofs.Common.{◌≡◌, map, refl, ap, arith}
-use Rattle.std.proofs.lemmas.List.{length-map}
-use Rattle.index_core.specs.Histories.{event_of}
+-- Each step of the store leaves it kept.
+use Rattle.std.proofs.Common.{◌<◌, ◌∙◌, ap, arith, length}
+use Rattle.index_core.specs.Histories.{Record}
+use Rattle.index_core.specs.Records.{open_views}
 use Rattle.index_core.specs.Calls.{after_freeze}
-use Rattle.index_core.specs.Representation.{Kept, IsKept, record_of, stored, with_views}
-use Rattle.index_core.proofs.MachineLemmas.{after_room, still, stepped}
+use Rattle.index_core.specs.Fields.{Stored, record_of}
+use Rattle.index_core.proofs.KeptLemmas.{with_room, freezes, Leaves}
+use Rattle.index_core.proofs.ViewLemmas.{open_views-after_freeze}
 use Rattle.index_core.proofs.machine.Core.seal.Goals as goal
 
 pub invariant_of-self : goal.invariant_of-self
-invariant_of-self c = (
-  c.make_room.ensures.one,
-  after_room c.self.invariant.1 _ _ _ (ap (map event_of) c.make_room.ensures.events_stay)
-      c.make_room.ensures.same c.make_room.ensures.places_stay,
-)
+invariant_of-self c =
+    rw c.reserve.ensures.same
+    (with_room c.self.invariant c.self.inside.store.closed c.reserve.new.self.places
+    c.reserve.ensures.more)
 
-pub invariant_of-self-in_err-piece : goal.invariant_of-self-in_err-piece
-invariant_of-self-in_err-piece c =
-    let room = length-map c.make_room.new.events.items event_of in (
-      c.freeze_buffered.ensures.one,
-      (stepped c.self.invariant.1 c.self.view_is (still c.in_err-piece.ensures.err)
-          (ap (map event_of) c.make_room.ensures.events_stay) refl c.make_room.ensures.same refl
-          c.make_room.ensures.places_stay (omega (arith, c.in_ok-make_room.ensures.event_room))).0,
-    )
+pub invariant_of-self-in_err-close : goal.invariant_of-self-in_err-close
+invariant_of-self-in_err-close c =
+    rw (c.close.ensures.same, c.reserve.ensures.same)
+    (with_room c.self.invariant c.close.new.self.closed c.reserve.new.self.places
+    c.reserve.ensures.more)
 
--- the fields once all is frozen
-abbrev fields_after : goal.After-drop-piece-inside → Kept
-fields_after c =
-    with_views (stored c.freeze_buffered.new.events c.freeze_buffered.new.pieces
-    c.freeze_buffered.new.unshared c.freeze_buffered.new.buffered c.freeze_buffered.new.frozen)
-    c.self.inside.begun c.self.inside.opened
-
-kept_after : (c : goal.After-drop-piece-inside)
-    → IsKept (fields_after c)
-    × (record_of (fields_after c) ≡ after_freeze c.args.caller c.args.self.now)
-kept_after c =
-    let room = length-map c.make_room.new.events.items event_of in
-    stepped c.self.invariant.1 c.self.view_is c.in_ok-piece.ensures.ok
-    (ap (map event_of) c.make_room.ensures.events_stay) refl c.make_room.ensures.same refl
-    c.make_room.ensures.places_stay (omega (arith, c.in_ok-make_room.ensures.event_room))
+left : (c : goal.After-drawn)
+    → Leaves c.freeze.new.self (after_freeze c.args.caller (record_of c.self.inside.store))
+left c =
+    let opened = c.opened.ensures in
+    let frozen = c.frozen.ensures in
+    let same = ap (λ (s : Stored). length s.history) c.reserve.ensures.same in
+    let count = c.accepted.ensures in
+    let some : 0 < length c.self.inside.store.buffer = omega (arith, count) in
+    rw (c.freeze.ensures, c.close.ensures.same, c.reserve.ensures.same)
+    (freezes (with_room c.self.invariant c.close.new.self.closed c.reserve.new.self.places
+    c.reserve.ensures.more) c.args.caller some (omega (arith, same, c.in_ok-reserve.ensures.ok)))
 
 pub invariant_of-self-2 : goal.invariant_of-self-2
-invariant_of-self-2 c = (c.freeze_buffered.ensures.one, (kept_after c).0)
-
-pub returns-clause-ok : goal.returns-clause-ok
-returns-clause-ok c = (kept_after c).1
+invariant_of-self-2 c = (left c).kept
 
 pub returns-clause-legal : goal.returns-clause-legal
-returns-clause-legal c = (kept_after c).0.legal
+returns-clause-legal c = (left c).kept.legal
+
+pub returns-clause-views : goal.returns-clause-views
+returns-clause-views c =
+    ap (λ (r : Record). open_views r)
+    ((left c).record_is ∙ ap (after_freeze c.args.caller) c.self.view_is)
+    ∙ open_views-after_freeze c.args.caller c.args.self.now

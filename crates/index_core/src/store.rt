@@ -1,0 +1,392 @@
+//! The fields of the core, and steps on them. What a step does is one equation of plain data.
+ghost use Rattle.std.specs.Prelude.{◌≡◌, ◌<◌, ◌≤◌, ◌+◌, ◌-◌, true, false, nat_lt};
+ghost use Rattle.std.specs.Prelude.{IfOk, IfErr, OnOk, OnErr, length, map};
+ghost use Rattle.sg_paths.specs.Operations.{plain_op};
+ghost use Rattle.index_core.specs.declared.limits.TheConstants.{MOST_OPERATIONS, MOST_OPEN_VIEWS};
+ghost use Rattle.index_core.specs.Histories.{event_of};
+ghost use Rattle.index_core.specs.Fields.{empty_store, with_places, with_closed, accepting};
+ghost use Rattle.index_core.specs.Fields.{accepting_one, freezing, freezing_all, all_pieces};
+ghost use Rattle.index_core.specs.Fields.{viewing, ending};
+
+use crate::batching::{shared_batch, take_last};
+use crate::event::Event;
+use crate::limits::BATCH_OPERATIONS;
+use crate::parts::{Piece, ViewParts};
+use crate::sharing::{generations_of, shared_pieces};
+use crate::slot::Slot;
+use sg_base::List;
+use sg_paths::{Batch, Op};
+use std::alloc::{AllocError, Global};
+use std::marker::Model;
+use std::mem;
+use std::sync::Arc;
+
+/// The fields of the core.
+#[derive(Drop)]
+pub(crate) struct Store {
+    alloc: Global,
+    events: Vec<Event>,
+    /// All batches, in the order of their operations: the journal but for what is buffered.
+    batches: Vec<Arc<Batch>>,
+    /// The table of current pieces, in the order of their generations.
+    slots: Vec<Slot>,
+    buffered: Vec<Op>,
+    /// All that is buffered, as a batch for which the lists have places.
+    closed: Option<Arc<Batch>>,
+    /// How many operations the batches have.
+    frozen: u64,
+    /// How many generations were drawn.
+    drawn: u32,
+    /// How many views were begun.
+    begun: u64,
+    /// How many of them are open.
+    opened: u32,
+}
+
+impl Model for Store {
+    ghost use Rattle.std.specs.Prelude.{map, option_map, vec_len};
+    ghost use Rattle.std.specs.Vec.{vec_capacity};
+    ghost use Rattle.index_core.specs.Histories.{event_of};
+    ghost use Rattle.index_core.specs.Fields.{Stored, slot_piece, buffer_of, is_closed, IsClosed};
+    ghost use Rattle.index_core.specs.Fields.{HaveBatches};
+
+    ghost Value = { Stored };
+
+    ghost view = { λ s. record {
+      history = map event_of s.events.items;
+      batches = map (λ b. b.value) s.batches.items;
+      pieces = map (slot_piece (map (λ b. b.value) s.batches.items)) s.slots.items;
+      buffer = buffer_of (option_map (λ b. b.value) s.closed) s.buffered.items;
+      closed = is_closed (option_map (λ b. b.value) s.closed);
+      frozen_count = s.frozen;
+      drawn_count = s.drawn;
+      begun_count = s.begun;
+      open_count = s.opened;
+      places = vec_capacity s.events;
+    } };
+
+    ghost invariant = { λ s.
+        IsClosed s.frozen (option_map (λ b. b.value) s.closed) s.buffered.items
+        (vec_len s.batches) (vec_capacity s.batches) (vec_len s.slots) (vec_capacity s.slots)
+        × HaveBatches (map (λ b. b.value) s.batches.items) s.slots.items };
+}
+
+impl Store {
+    pub(crate) fn new(alloc: Global) -> Store
+        ensures { result ≡ with_places result.places empty_store }
+    {
+        Store {
+            alloc,
+            events: Vec::new(alloc),
+            batches: Vec::new(alloc),
+            slots: Vec::new(alloc),
+            buffered: Vec::new(alloc),
+            closed: None,
+            frozen: 0,
+            drawn: 0,
+            begun: 0,
+            opened: 0,
+        }
+    }
+
+    pub(crate) fn history(&self) -> &[Event]
+        ensures { map event_of result.now ≡ self.now.history }
+    {
+        self.events.as_slice()
+    }
+
+    pub(crate) fn frozen(&self) -> u64
+        ensures { result ≡ self.now.frozen_count }
+    {
+        self.frozen
+    }
+
+    pub(crate) fn drawn(&self) -> u32
+        ensures { result ≡ self.now.drawn_count }
+    {
+        self.drawn
+    }
+
+    pub(crate) fn opened(&self) -> u32
+        ensures { result ≡ self.now.open_count }
+    {
+        self.opened
+    }
+
+    /// How many operations are accepted.
+    pub(crate) fn accepted(&self) -> u64
+        requires { self.now.frozen_count + length self.now.buffer ≤ MOST_OPERATIONS }
+        ensures { result ≡ self.now.frozen_count + length self.now.buffer }
+    {
+        match &self.closed {
+            Some(batch) => self.frozen + batch.ops.items().len() as u64,
+            None => self.frozen + self.buffered.len() as u64,
+        }
+    }
+
+    /// Room for so many events.
+    pub(crate) fn reserve(&mut self, places: usize) -> Result<(), AllocError>
+        ensures ok { OnOk result (length self.new.history + places ≤ self.new.places) }
+        ensures same { self.new ≡ with_places self.new.places self.old }
+        ensures more { self.old.places ≤ self.new.places }
+    {
+        self.events.reserve(places)
+    }
+
+    /// What is buffered is a batch, if anything is.
+    pub(crate) fn close(&mut self) -> Result<(), AllocError>
+        requires most { self.old.frozen_count + length self.old.buffer ≤ MOST_OPERATIONS }
+        ensures ok { OnOk result (self.new.closed ≡ nat_lt 0 (length self.old.buffer)) }
+        ensures same { self.new ≡ with_closed self.new.closed self.old }
+    {
+        if self.closed.is_some() {
+            return Ok(());
+        }
+        if self.buffered.is_empty() {
+            return Ok(());
+        }
+        self.batches.reserve(1)?;
+        self.slots.reserve(1)?;
+        let from = self.frozen + 1;
+        let upto = self.frozen + self.buffered.len() as u64;
+        let ops = mem::replace(&mut self.buffered, Vec::new(self.alloc));
+        match shared_batch(self.alloc, from, upto, ops) {
+            Ok(batch) => {
+                self.closed = Some(batch);
+                Ok(())
+            }
+            Err(ops) => {
+                self.buffered = ops;
+                Err(AllocError)
+            }
+        }
+    }
+
+    /// What is buffered isn't a batch.
+    pub(crate) fn reopen(&mut self) -> Result<(), AllocError>
+        ensures ok { OnOk result (self.new.closed ≡ false) }
+        ensures same { self.new ≡ with_closed self.new.closed self.old }
+    {
+        let Some(batch) = self.closed.take() else {
+            return Ok(());
+        };
+        match Arc::try_unwrap(batch) {
+            Ok(
+                Batch {
+                    from: _,
+                    upto: _,
+                    ops,
+                },
+            ) => {
+                self.buffered = ops.into_vec();
+                Ok(())
+            }
+            Err(batch) => {
+                self.closed = Some(batch);
+                Err(AllocError)
+            }
+        }
+    }
+
+    /// Buffers one operation more. An error hands it back.
+    pub(crate) fn buffer(&mut self, caller: u32, op: Op) -> Result<(), Op>
+        requires closed { self.old.closed ≡ false }
+        requires room { length self.old.history < self.old.places }
+        requires most { self.old.frozen_count + length self.old.buffer < MOST_OPERATIONS }
+        ensures ok { OnOk result (self.new ≡ accepting caller (plain_op op) self.old) }
+        ensures returned { IfErr result (λ o. plain_op o ≡ plain_op op) }
+        ensures err { OnErr result (self.new ≡ self.old) }
+    {
+        let seq = self.frozen + self.buffered.len() as u64 + 1;
+        let Ok(()) = self.buffered.reserve(1) else {
+            return Err(op);
+        };
+        self.buffered.push_reserved(op);
+        self.events.push_reserved(Event::Accept { caller, seq });
+        Ok(())
+    }
+
+    /// Freezes what is buffered.
+    pub(crate) fn freeze(&mut self, caller: u32)
+        requires closed { self.old.closed ≡ true }
+        requires room { length self.old.history < self.old.places }
+        requires most { self.old.frozen_count + length self.old.buffer ≤ MOST_OPERATIONS }
+        requires few { self.old.drawn_count ≤ self.old.frozen_count }
+        ensures { self.new ≡ freezing caller self.old }
+    {
+        let Some(batch) = self.closed.take() else {
+            unreachable!()
+        };
+        let generation = self.drawn + 1;
+        let from = batch.from;
+        let upto = batch.upto;
+        let at = self.batches.len();
+        self.slots.push_reserved(Slot { generation, at });
+        self.batches.push_reserved(batch);
+        self.events.push_reserved(Event::Seal {
+            caller,
+            generation,
+            from,
+            upto,
+        });
+        self.frozen = upto;
+        self.drawn = generation;
+    }
+
+    /// Freezes the closed batch, if there is one.
+    pub(crate) fn freeze_all(&mut self, caller: u32)
+        requires room { length self.old.history < self.old.places }
+        requires most { self.old.frozen_count + length self.old.buffer ≤ MOST_OPERATIONS }
+        requires few { self.old.drawn_count ≤ self.old.frozen_count }
+        ensures { self.new ≡ freezing_all caller self.old }
+    {
+        if self.closed.is_some() {
+            self.freeze(caller);
+        }
+    }
+
+    /// Freezes what is buffered with one operation more. An error hands it back.
+    pub(crate) fn freeze_with(&mut self, caller: u32, op: Op) -> Result<(), Op>
+        requires closed { self.old.closed ≡ false }
+        requires room { length self.old.history + 2 ≤ self.old.places }
+        requires most { self.old.frozen_count + length self.old.buffer < MOST_OPERATIONS }
+        requires few { self.old.drawn_count ≤ self.old.frozen_count }
+        ensures ok { OnOk result (self.new
+            ≡ freezing caller (accepting caller (plain_op op) self.old)) }
+        ensures returned { IfErr result (λ o. plain_op o ≡ plain_op op) }
+        ensures err { OnErr result (self.new ≡ self.old) }
+    {
+        let from = self.frozen + 1;
+        let upto = self.frozen + self.buffered.len() as u64 + 1;
+        let Ok(()) = self.batches.reserve(1) else {
+            return Err(op);
+        };
+        let Ok(()) = self.slots.reserve(1) else {
+            return Err(op);
+        };
+        let Ok(()) = self.buffered.reserve(1) else {
+            return Err(op);
+        };
+        self.buffered.push_reserved(op);
+        let ops = mem::replace(&mut self.buffered, Vec::new(self.alloc));
+        match shared_batch(self.alloc, from, upto, ops) {
+            Ok(batch) => {
+                self.closed = Some(batch);
+                self.events
+                    .push_reserved(Event::Accept { caller, seq: upto });
+                self.freeze(caller);
+                Ok(())
+            }
+            Err(ops) => {
+                self.buffered = ops;
+                Err(take_last(&mut self.buffered))
+            }
+        }
+    }
+
+    /// Room for so many events, and what is buffered isn't a batch.
+    pub(crate) fn make_room(&mut self, places: usize) -> Result<(), AllocError>
+        ensures room { OnOk result (length self.new.history + places ≤ self.new.places) }
+        ensures closed { OnOk result (self.new.closed ≡ false) }
+        ensures same { self.new
+            ≡ with_closed self.new.closed (with_places self.new.places self.old) }
+        ensures more { self.old.places ≤ self.new.places }
+    {
+        self.reserve(places)?;
+        self.reopen()
+    }
+
+    /// Buffers one operation more, or freezes it with what is buffered where that is then full. An
+    /// error hands it back.
+    pub(crate) fn accept(&mut self, caller: u32, op: Op) -> Result<(), Op>
+        requires closed { self.old.closed ≡ false }
+        requires room { length self.old.history + 2 ≤ self.old.places }
+        requires most { self.old.frozen_count + length self.old.buffer < MOST_OPERATIONS }
+        requires few { self.old.drawn_count ≤ self.old.frozen_count }
+        ensures ok { OnOk result (self.new ≡ accepting_one caller (plain_op op) self.old) }
+        ensures returned { IfErr result (λ o. plain_op o ≡ plain_op op) }
+        ensures err { OnErr result (self.new ≡ self.old) }
+    {
+        if self.buffered.len() + 1 < BATCH_OPERATIONS {
+            return self.buffer(caller, op);
+        }
+        self.freeze_with(caller, op)
+    }
+
+    /// The parts of the view that begins next, where the closed batch is one of the pieces.
+    pub(crate) fn share(&self) -> Result<ViewParts, AllocError>
+        requires most { self.now.frozen_count + length self.now.buffer ≤ MOST_OPERATIONS }
+        requires few { self.now.drawn_count ≤ self.now.frozen_count }
+        requires room { length self.now.history < self.now.places }
+        requires begun { self.now.begun_count ≤ length self.now.history }
+        ensures view { IfOk result (λ p. p.view ≡ self.now.begun_count + 1) }
+        ensures upto { IfOk result (λ p. p.upto ≡ self.now.frozen_count + length self.now.buffer) }
+        ensures pieces { IfOk result (λ p. p.pieces ≡ all_pieces self.now) }
+        ensures gens { IfOk result (λ p.
+            p.generations ≡ map (λ piece. piece.generation) (all_pieces self.now)) }
+    {
+        let pieces = self.share_pieces()?;
+        let gens = generations_of(self.alloc, pieces.as_slice())?;
+        Ok(ViewParts {
+            view: self.begun + 1,
+            upto: self.accepted(),
+            pieces: List::of(pieces),
+            gens: List::of(gens),
+        })
+    }
+
+    fn share_pieces(&self) -> Result<Vec<Piece>, AllocError>
+        requires few { self.now.drawn_count ≤ self.now.frozen_count }
+        requires most { self.now.frozen_count + length self.now.buffer ≤ MOST_OPERATIONS }
+        ensures { IfOk result (λ v. v.items ≡ all_pieces self.now) }
+    {
+        let mut pieces = shared_pieces(self.alloc, self.slots.as_slice(), self.batches.as_slice())?;
+        if let Some(batch) = &self.closed {
+            pieces.push(Piece {
+                generation: self.drawn + 1,
+                batch: Arc::try_clone(batch)?,
+            })?;
+        }
+        Ok(pieces)
+    }
+
+    /// The generations of the parts of a view, for its event.
+    pub(crate) fn held(&self, parts: &ViewParts) -> Result<List<u32>, AllocError>
+        ensures { IfOk result (λ gens.
+            gens.items ≡ map (λ piece. piece.generation) parts.now.pieces) }
+    {
+        let gens = generations_of(self.alloc, parts.pieces.items())?;
+        Ok(List::of(gens))
+    }
+
+    /// Begins a view.
+    pub(crate) fn begin(&mut self, caller: u32, gens: List<u32>)
+        requires room { length self.old.history < self.old.places }
+        requires begun { self.old.begun_count ≤ length self.old.history }
+        requires few { self.old.open_count < MOST_OPEN_VIEWS }
+        ensures { self.new ≡ viewing caller gens.items self.old }
+    {
+        self.begun += 1;
+        self.opened += 1;
+        self.events.push_reserved(Event::Begin {
+            view: self.begun,
+            caller,
+            upto: self.frozen,
+            gens,
+        });
+    }
+
+    /// Ends a view.
+    pub(crate) fn end(&mut self, caller: u32, view: u64)
+        requires some { 0 < self.old.open_count }
+        requires room { length self.old.history < self.old.places }
+        ensures { self.new ≡ ending caller view self.old }
+    {
+        self.events.push_reserved(Event::End {
+            caller,
+            view,
+            freed: List::of(Vec::new(self.alloc)),
+        });
+        self.opened -= 1;
+    }
+}
