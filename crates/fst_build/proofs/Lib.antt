@@ -1,0 +1,10 @@
+pub mod WalkLemmas
+pub mod NodeLemmas
+pub mod FreezeLemmas
+pub mod BranchLemmas
+pub mod LoweringLemmas
+pub mod CountLemmas
+pub mod LevelLemmas
+pub mod BuilderLemmas
+pub mod RootLemmas
+pub mod WritingLemmas

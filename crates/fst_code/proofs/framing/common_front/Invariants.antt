@@ -1,0 +1,7 @@
+-- The bytes so far are common.
+use Rattle.std.proofs.Common.{◌≡◌, ◌+◌, drop}
+use Rattle.fst_code.specs.Rules.{common}
+use Rattle.fst_code.proofs.framing.common_front.Given as goal
+
+abbrev pub invariant-loop-i : goal.invariant-loop-i
+invariant-loop-i l = l.i + common (drop l.i l.name) (drop l.i l.bytes) ≡ common l.name l.bytes

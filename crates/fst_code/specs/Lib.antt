@@ -1,0 +1,15 @@
+pub mod Tails
+pub mod Bytes
+pub mod Frames
+pub mod NodeRules
+pub mod Orders
+pub mod Rules
+pub mod ValidNodes
+pub mod Transducers
+pub mod Laws
+pub mod Examples
+pub mod Lists
+pub mod Shapes
+pub mod Views
+pub mod Numbering
+pub mod Faults

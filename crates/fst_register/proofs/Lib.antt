@@ -1,0 +1,2 @@
+pub mod NodeListLemmas
+pub mod RegisterLemmas
