@@ -1,0 +1,12 @@
+-- Live docs in words of 64 bits. No public clause cites this module.
+use Rattle.std.specs.Prelude.{ℕ, zero, suc, ◌+◌, ◌/◌, ◌%◌, Bool, ◌==◌, get_or, List, [], ◌∷◌}
+use Rattle.std.specs.Int.{bit_at}
+
+-- whether the bit of a place is set
+abbrev pub is_set : List ℕ → ℕ → Bool
+is_set words i = bit_at (get_or words (i / 64) 0) (i % 64) == 1
+
+-- the bits of k places from n on
+abbrev pub bits_from : List ℕ → ℕ → ℕ → List Bool
+bits_from words n zero = []
+bits_from words n (suc k) = is_set words n ∷ bits_from words (n + 1) k

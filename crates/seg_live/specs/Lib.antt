@@ -1,0 +1,2 @@
+pub mod LiveDocs
+pub mod Bits

@@ -1,0 +1,4 @@
+pub mod Owners
+pub mod Ids
+pub mod Counts
+pub mod Table

@@ -1,0 +1,10 @@
+//! The tests of the crates of a segment: worked examples, and each public call on its happy path.
+//! What a contract says isn't tested again.
+#![tactic(auto)]
+
+#[cfg(test)]
+mod live_docs;
+#[cfg(test)]
+mod making;
+#[cfg(test)]
+mod tables;

@@ -1,0 +1,47 @@
+//! Documents for tests, from short texts.
+
+use sg_base::{Bytes, Context, Key, Text};
+use sg_paths::{Document, Numbered, Suggestion};
+use std::alloc::Global;
+use std::test::Fail;
+
+fn contexts_of(alloc: Global, spelled: &str) -> Result<Vec<Context>, Fail> {
+    let mut contexts = Vec::new(alloc);
+    for name in spelled.split(',') {
+        contexts.push(Context::new(alloc, name)?)?;
+    }
+    Ok(contexts)
+}
+
+/// A suggestion: its key, `:`, its weight and, behind `@`, its contexts.
+fn suggestion_of(alloc: Global, spelled: &str) -> Result<Suggestion, Fail> {
+    let (key, rest) = spelled.split_once(':').ok_or("no weight")?;
+    let (weight, contexts) = match rest.split_once('@') {
+        Some((weight, contexts)) => (weight, contexts_of(alloc, contexts)?),
+        None => (rest, Vec::new(alloc)),
+    };
+    let text = Text::of(alloc, key)?;
+    let key = Key::of(Bytes::of(alloc, key.as_bytes())?)?;
+    Ok(Suggestion::new(text, key, weight.parse::<u32>()?, contexts)?)
+}
+
+/// A document: its id, and its suggestions with blanks between them.
+fn document_of(alloc: Global, spelled: &str) -> Result<Document, Fail> {
+    let (id, rest) = spelled.trim().split_once(' ').ok_or("no suggestion")?;
+    let mut suggestions = Vec::new(alloc);
+    for word in rest.split_whitespace() {
+        suggestions.push(suggestion_of(alloc, word)?)?;
+    }
+    Ok(Document::new(Text::of(alloc, id)?, suggestions)?)
+}
+
+/// Documents with `;` between them, which have the numbers 1, 2 ..
+pub fn documents_of(alloc: Global, spelled: &str) -> Result<Vec<Numbered>, Fail> {
+    let mut documents = Vec::new(alloc);
+    for document in spelled.split(';') {
+        let seq = documents.len() as u64 + 1;
+        let document = document_of(alloc, document)?;
+        documents.push(Numbered { seq, document })?;
+    }
+    Ok(documents)
+}

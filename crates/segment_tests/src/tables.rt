@@ -1,0 +1,85 @@
+use crate::making::documents_of;
+use seg_table::SegTable;
+use sg_base::{Plain, Steps};
+use sg_paths::{MOST_SEGMENT_PATHS, Path, paths_at_most, paths_of};
+use std::alloc::Global;
+use std::test::Fail;
+
+// A row each: its name, documents, their paths as context/key#number=weight, with the document and
+// the place of their owner, the most paths of a document, and the documents with an id.
+const ROWS: &str = "\
+two documents: d1 abz:5@a zzz:1@a; d2 abc:5@b => a/abz#0=5(0.0) a/zzz#0=1(0.1) b/abc#0=5(1.0) | 2 | d2: 1
+one id, key and weight: d k:5@a; e k:5@a; d k:9@a; d k:5@a => a/k#0=9(2.0) a/k#1=5(0.0) a/k#2=5(1.0) a/k#3=5(3.0) | 1 | d: 0 2 3
+the empty context beside others: d k:5@,a; e k:7; f k:1@a => /k#0=7(1.0) /k#1=5(0.0) a/k#0=5(0.0) a/k#1=1(2.0) | 2 | e: 1
+a context that is a front of others: d k:1@ab,a,a\u{1} => a\u{1}/k#0=1(0.0) a/k#0=1(0.0) ab/k#0=1(0.0) | 3 | d: 0
+a key that is a front of others: d abc:1@a ab:2@a a:3@a => a/a#0=3(0.2) a/ab#0=2(0.1) a/abc#0=1(0.0) | 3 | d: 0
+a context and a key given again: d k:5@a,a k:7@a k:7@a,b; e k:6@a => a/k#0=7(0.1) a/k#1=6(1.0) b/k#0=7(0.2) | 2 | e: 1
+ids that are fronts of others: ab k:1; a k:1; abc k:1; ab k:1; b k:1 => /k#0=1(0.0) /k#1=1(1.0) /k#2=1(2.0) /k#3=1(3.0) /k#4=1(4.0) | 1 | ab: 0 3
+an id of no document: b k:1; d k:1 => /k#0=1(0.0) /k#1=1(1.0) | 1 | c:";
+
+fn shown_path(alloc: Global, path: &Path) -> Result<String, Fail> {
+    let key = str::from_utf8(path.key.as_slice())?;
+    let context = path.context.as_str();
+    let named = format!(in alloc; "{context}/{key}#{}={}", path.n, path.weight)?;
+    Ok(named)
+}
+
+fn shown_run(alloc: Global, table: &SegTable, id: &str) -> Result<String, Fail> {
+    let mut shown = format!(in alloc; "{id}:")?;
+    for doc in table.with_id(id) {
+        shown.push_str(format!(in alloc; " {doc}")?.as_str())?;
+    }
+    Ok(shown)
+}
+
+// The paths with their owners, the most of a document, and the documents with an id.
+fn told(alloc: Global, spelled: &str, id: &str) -> Result<String, Fail> {
+    let documents = documents_of(alloc, spelled)?;
+    if documents.len() > 100 || paths_at_most(documents.as_slice()) > MOST_SEGMENT_PATHS {
+        return Err("too many".into());
+    }
+    let paths = paths_of(alloc, documents.as_slice())?;
+    let table = SegTable::of(documents, paths.as_slice())?;
+    let mut steps = Steps::new(Plain);
+    let mut told = String::new(alloc);
+    for (ordinal, path) in paths.iter().enumerate() {
+        let owner = table.owner(ordinal as u32, &mut steps);
+        let named = shown_path(alloc, path)?;
+        told.push_str(named.as_str())?;
+        told.push_str(format!(in alloc; "({}.{}) ", owner.doc, owner.place)?.as_str())?;
+    }
+    let run = shown_run(alloc, &table, id)?;
+    told.push_str(format!(in alloc; "| {} | {run}", table.most_paths())?.as_str())?;
+    Ok(told)
+}
+
+#[test]
+fn paths_owners_and_ids_are_those_of_the_documents(rt: HostRuntime) -> Result<(), Fail> {
+    for row in ROWS.lines() {
+        let (name, rest) = row.split_once(": ").ok_or("no name")?;
+        let (documents, wanted) = rest.split_once(" => ").ok_or("no paths")?;
+        let (_, run) = wanted.rsplit_once("| ").ok_or("no run")?;
+        let (id, _) = run.split_once(':').ok_or("no id")?;
+        let told = told(rt.alloc(), documents, id)?;
+        assert_eq!(rt; told.as_str(), wanted, "{name}");
+    }
+    Ok(())
+}
+
+#[test]
+fn a_table_lends_its_documents(rt: HostRuntime) -> Result<(), Fail> {
+    let documents = documents_of(rt.alloc(), "b k:1; a k:2@x,y")?;
+    if documents.len() != 2 || paths_at_most(documents.as_slice()) > MOST_SEGMENT_PATHS {
+        return Err("other documents".into());
+    }
+    let paths = paths_of(rt.alloc(), documents.as_slice())?;
+    let table = SegTable::of(documents, paths.as_slice())?;
+    let second = table.doc(1).copy()?;
+    assert_eq!(rt; second.seq, 2);
+    assert_eq!(rt; second.document.id.as_str(), "a");
+    assert_eq!(rt; table.len(), 2);
+    assert_eq!(rt; table.docs().len(), 2);
+    assert_eq!(rt; table.owners().len(), 3);
+    assert_eq!(rt; table.ids(), [1, 0].as_slice());
+    Ok(())
+}
