@@ -1,0 +1,11 @@
+mod PlaceLemmas
+mod NumberLemmas
+mod TicketLemmas
+mod ChainLemmas
+mod ValueLemmas
+mod StepLemmas
+mod EnterLemmas
+mod LeaveLemmas
+mod MakingLemmas
+mod MeetingLemmas
+mod HandleLemmas

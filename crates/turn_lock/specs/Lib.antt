@@ -1,0 +1,5 @@
+pub mod Handles
+pub mod Rule
+pub mod Steps
+pub mod Hands
+pub mod Limits
