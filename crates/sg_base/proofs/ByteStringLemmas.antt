@@ -1,13 +1,13 @@
 -- The order of byte strings is that of slices, and what they begin with.
-use Rattle.std.proofs.Common.{◌≡◌, ◌<◌, ℕ, Bool, true, false, not, ◌&&◌, cond, ◌⊎◌, inl, inr, Ordering}
-use Rattle.std.proofs.Common.{List, [], ◌∷◌, ◌++◌, length, take, drop, refl, sym, ap, ◌∙◌, arith}
-use Rattle.std.proofs.Common.{eqb, eq-eqb, eqb-true, ltb}
+use Rattle.std.proofs.Common.{◌≡◌, ◌<◌, ℕ, true, false, ◌&&◌, cond, ◌⊎◌, inl, inr}
+use Rattle.std.proofs.Common.{List, [], ◌∷◌, refl, sym, ap, arith}
+use Rattle.std.proofs.Common.{eqb, eq-eqb, ltb}
 use Rattle.std.specs.List.{starts_with}
 use Rattle.std.specs.Cmp.Lexicographic.{slice_cmp}
 use Rattle.std.specs.Ordering.{nat_cmp, is_lt, ordering_then}
 use Rattle.std.specs.declared.cmp.Ordering.TheVariants.{Less, Equal, Greater}
 use Rattle.std.proofs.lemmas.Bool.{cases_order, ne_eqb, lt-ltb, le-ltb}
-use Rattle.sg_base.specs.ByteStrings.{begins, is_less, lacks}
+use Rattle.sg_base.specs.ByteStrings.{begins, is_less}
 
 -- three ways in which a byte can stand to another
 pub data Byte (x y : ℕ) : Type 0 where

@@ -1,5 +1,5 @@
 -- Equal nodes have one length and one hash.
-use Rattle.std.proofs.Common.{◌≡◌, ◌<◌, ◌≤◌, ◌-◌, ℕ, zero, suc, ◌*◌, ◌||◌, get_or, ◌/◌, ◌^◌, Bool}
+use Rattle.std.proofs.Common.{◌≡◌, ◌<◌, ◌≤◌, ◌-◌, ℕ, zero, suc, ◌||◌, get_or, Bool}
 use Rattle.std.proofs.Common.{true, false, ◌&&◌, List, [], ◌∷◌, length, refl, sym, ap, ◌∙◌, arith}
 use Rattle.std.proofs.Common.{eqb, eq-eqb, ◌⊎◌, inl, inr, subst}
 use Rattle.std.proofs.lemmas.Bool.{eqb-true, cases_order}
