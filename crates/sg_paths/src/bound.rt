@@ -1,5 +1,5 @@
 //! A bound of the paths of documents, counted without making them.
-ghost use Rattle.std.specs.Prelude.{◌≡◌, ◌≤◌, max, length};
+ghost use Rattle.std.specs.Prelude.{◌≡◌, ◌≤◌, ◌*◌, max, length};
 ghost use Rattle.sg_paths.specs.AllPaths.{path_entries};
 ghost use Rattle.sg_paths.specs.declared.limits.TheConstants.{MOST_SEGMENT_DOCUMENTS};
 ghost use Rattle.sg_paths.specs.PathBounds.{contexts_given, contexts_given_in};
@@ -41,6 +41,7 @@ pub fn paths_at_most(docs: &[Numbered]) -> u64
     requires { length docs.now ≤ MOST_SEGMENT_DOCUMENTS }
     ensures value { result ≡ contexts_given_in docs.now }
     ensures bound { length (path_entries 0 docs.now) ≤ result }
+    ensures most { result ≤ 256 * length docs.now }
 {
     let mut count: u64 = 0;
     for numbered in docs {
