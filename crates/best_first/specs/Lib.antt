@@ -1,0 +1,10 @@
+pub mod Lists
+pub mod Matches
+pub mod Families
+pub mod Listings
+pub mod Progress
+pub mod Steps
+pub mod Segments
+pub mod Ends
+pub mod Exact
+pub mod Spots

@@ -1,0 +1,2 @@
+//! The best-first search of a segment with a bounded queue.
+#![tactic(auto)]
