@@ -1,5 +1,5 @@
--- When exactly a search over one context is truncated, and where. No public clause cites it. Source:
--- this project's own.
+-- When exactly a search over one context is truncated, and where. No public clause cites it.
+-- Source: this project's own.
 use Rattle.std.specs.Prelude.{ℕ, ◌≡◌, ◌<◌, true, List, ◌∷◌, ◌++◌, length, Option, Some, None}
 use Rattle.std.specs.declared.cmp.Ordering.{Ordering}
 use Rattle.std.specs.Cmp.{IsTotalOrder, then_total, back_total, on_total, nat_cmp_total}
