@@ -1,16 +1,15 @@
 -- What it means that each matching path lies under one entry alone.
-use Rattle.std.proofs.Common.{◌≡◌, ◌≤◌, ◌<◌, ◌+◌, ℕ, zero, suc, Bool, true, false, cond, nat_eq}
-use Rattle.std.proofs.Common.{not, ◌&&◌, ◌⊎◌, inl, inr, List, [], ◌∷◌, ◌++◌, length, refl, sym, ap}
+use Rattle.std.proofs.Common.{◌≡◌, ℕ, Bool, true, false, nat_eq}
+use Rattle.std.proofs.Common.{◌&&◌, List, [], refl, sym}
 use Rattle.std.proofs.Common.{◌∙◌, subst, arith}
 use Rattle.std.proofs.lemmas.Bool.Decides.{nat_tests}
 use Rattle.std.proofs.lemmas.List.{append-nil}
 use Rattle.sg_base.specs.ByteStrings.{begins}
-use Rattle.sg_base.specs.Lists.{In, Pairs}
+use Rattle.sg_base.specs.Lists.{In}
 use Rattle.path_desk.specs.Entries.{Queued}
 use Rattle.path_desk.proofs.OrderLemmas.{entry_lt}
 use Rattle.best_first.proofs.EntryLemmas.{tied_entries}
 use Rattle.fst_walk.proofs.BeginLemmas.{begins_trans, begins-append}
-use Rattle.best_first.specs.Lists.{passing}
 use Rattle.best_first.specs.Matches.{Match, covers, Best}
 
 and_parts : (s t : Bool) → (s && t) ≡ true → (s ≡ true) × (t ≡ true)

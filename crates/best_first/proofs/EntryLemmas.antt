@@ -1,7 +1,7 @@
 -- Entries of one start, entries under one another, and what marks say of entries.
 use Rattle.std.proofs.Common.{drop}
-use Rattle.std.proofs.Common.{◌≡◌, ◌≤◌, ◌<◌, ◌+◌, ℕ, zero, suc, Bool, true, false, cond, nat_eq}
-use Rattle.std.proofs.Common.{◌&&◌, List, [], ◌∷◌, ◌++◌, length, refl, sym, ap, ◌∙◌, subst, arith}
+use Rattle.std.proofs.Common.{◌≡◌, ◌≤◌, ℕ, Bool, true, false, cond, nat_eq}
+use Rattle.std.proofs.Common.{◌&&◌, List, [], ◌∷◌, ◌++◌, length, refl, sym, ap, ◌∙◌, arith}
 use Rattle.std.specs.declared.cmp.Ordering.{Ordering}
 use Rattle.std.specs.declared.cmp.Ordering.TheVariants.{Less, Equal, Greater}
 use Rattle.std.specs.Cmp.Lexicographic.{slice_cmp}
@@ -9,7 +9,7 @@ use Rattle.std.specs.Ordering.{nat_cmp, ordering_then, ordering_reverse, is_lt, 
 use Rattle.std.specs.FinMap.{nat_cmp-IsAntisymmetric, slice_cmp-IsAntisymmetric}
 use Rattle.std.proofs.lemmas.Bool.Decides.{nat_tests}
 use Rattle.sg_base.specs.ByteStrings.{begins}
-use Rattle.sg_base.specs.Cuts.{Mark, mark, mark_cmp, mark_cmp_total}
+use Rattle.sg_base.specs.Cuts.{mark, mark_cmp, mark_cmp_total}
 use Rattle.sg_base.proofs.MarkLemmas.{mark_lt}
 use Rattle.path_desk.specs.Entries.{Queued, key_part, rest_part, entry_cmp, entry_cmp_total}
 use Rattle.path_desk.specs.Entries.{mark_of}

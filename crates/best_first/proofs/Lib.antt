@@ -5,3 +5,14 @@ pub mod CoverLemmas
 pub mod ProgressLemmas
 pub mod ChooseLemmas
 pub mod SearchLemmas
+pub mod MarkLemmas
+pub mod CompleteLemmas
+pub mod SpreadLemmas
+pub mod CutLemmas
+pub mod BetweenLemmas
+pub mod DoneLemmas
+pub mod EndLemmas
+pub mod PrefixLemmas
+pub mod OrderLemmas
+pub mod ShortLemmas
+pub mod ExactLemmas

@@ -1,7 +1,7 @@
 -- Members and counts.
-use Rattle.std.proofs.Common.{◌≡◌, ◌≤◌, ◌<◌, ◌+◌, ℕ, zero, suc, Bool, true, false, cond, nat_eq}
-use Rattle.std.proofs.Common.{not, ◌&&◌, ◌⊎◌, inl, inr, List, [], ◌∷◌, ◌++◌, length, refl, sym, ap}
-use Rattle.std.proofs.Common.{◌∙◌, subst, arith}
+use Rattle.std.proofs.Common.{◌≡◌, ◌≤◌, ◌+◌, ℕ, suc, Bool, true, false, cond}
+use Rattle.std.proofs.Common.{◌⊎◌, inl, inr, List, [], ◌∷◌, length, refl, sym, ap}
+use Rattle.std.proofs.Common.{subst, arith}
 use Rattle.std.specs.Ordering.{is_lt}
 use Rattle.sg_base.specs.Ranking.{put_in}
 use Rattle.sg_base.specs.Lists.{In, Pairs}

@@ -1,12 +1,9 @@
 -- Which rows don't matter to the first k, and to those that precede a truncation point.
 use Rattle.std.proofs.Common.{◌≡◌, ◌≤◌, ◌<◌, ◌+◌, ◌⊎◌, inl, inr, ℕ, zero, suc, Bool, true, false}
-use Rattle.std.proofs.Common.{cond, nat_eq, not, ◌&&◌, List, [], ◌∷◌, ◌++◌, length, take, refl, sym}
+use Rattle.std.proofs.Common.{cond, nat_eq, not, List, [], ◌∷◌, ◌++◌, length, take, refl, sym}
 use Rattle.std.proofs.Common.{ap, ◌∙◌, subst, arith}
-use Rattle.std.specs.Ordering.{is_lt}
 use Rattle.std.specs.List.{filter, AllByRecursion}
-use Rattle.std.proofs.lemmas.Bool.Decides.{nat_tests}
-use Rattle.sg_base.specs.Lists.{In, Pairs}
-use Rattle.sg_base.specs.Ranking.{rank_cmp, IsRanking}
+use Rattle.sg_base.specs.Lists.{In}
 use Rattle.sg_base.specs.declared.rank.Rank.{Rank}
 use Rattle.sg_base.proofs.Orders.{at_most_trans, weaken}
 use Rattle.sg_base.proofs.ListLemmas.{in-append, all_of}
@@ -14,8 +11,7 @@ use Rattle.sg_base.proofs.MarkLemmas.{GoesDown}
 use Rattle.sg_base.specs.Rows.{without, put_row, ranked}
 use Rattle.sg_base.proofs.RankingLemmas.{rank_lt, ranks_ordered, Ascending, Once}
 use Rattle.collector.proofs.RankingLemmas.{is_ranking-ranked, ranked-same, in-without}
-use Rattle.collector.proofs.RankingLemmas.{ascending-put_row}
-use Rattle.collector.proofs.KeptLemmas.{Others, others_from, without-others}
+use Rattle.collector.proofs.KeptLemmas.{others_from, without-others}
 
 pub in-append-right : {X : Type 0} (e : X) (xs ys : List X) → In e ys → In e (xs ++ ys)
 in-append-right e [] ys i = i

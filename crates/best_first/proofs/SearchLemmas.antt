@@ -1,8 +1,8 @@
 -- What the calls on the desk do to what holds of the search.
-use Rattle.std.proofs.Common.{◌≡◌, ◌≤◌, ◌<◌, ◌+◌, ◌-◌, ◌⊎◌, inl, inr, ℕ, zero, suc, Bool, true}
+use Rattle.std.proofs.Common.{◌≡◌, ◌≤◌, ◌<◌, ◌+◌, ◌-◌, inl, inr, ℕ, zero, suc, Bool, true}
 use Rattle.std.proofs.Common.{false, List, [], ◌∷◌, ◌++◌, length, length-append, take, drop, map}
 use Rattle.std.proofs.Common.{refl, sym, ap, ◌∙◌, subst, arith}
-use Rattle.std.specs.Prelude.{Option, Some, None, slice_index_or, IsSome, nat_lt}
+use Rattle.std.specs.Prelude.{Option, Some, slice_index_or, IsSome, nat_lt}
 use Rattle.std.proofs.lemmas.List.{append-nil}
 use Rattle.std.proofs.lemmas.Bool.{ltb-true, ltb-false}
 use Rattle.sg_base.specs.Lists.{In}
@@ -10,7 +10,6 @@ use Rattle.sg_base.specs.declared.node.Edge.{Edge}
 use Rattle.path_desk.specs.declared.entry.Entry.{Entry}
 use Rattle.path_desk.specs.Entries.{Queued, queued}
 use Rattle.path_desk.specs.Desks.{PlainDesk, put_entry, taken_room, path_of, path_bytes, stepped}
-use Rattle.path_desk.specs.Desks.{following}
 use Rattle.best_first.specs.Matches.{Match, Best}
 use Rattle.best_first.specs.Progress.{Taken, IsCurrent, Progress}
 use Rattle.best_first.specs.Families.{IsFamily}

@@ -1,5 +1,5 @@
 -- What holds of a search between two steps. No public clause cites it. Source: this project's own.
-use Rattle.std.specs.Prelude.{ℕ, ◌≡◌, ◌<◌, ◌≤◌, ◌+◌, Bool, true, false, ◌⊎◌, ⊤, List, [], ◌∷◌}
+use Rattle.std.specs.Prelude.{ℕ, ◌≡◌, ◌≤◌, ◌+◌, true, false, ◌⊎◌, ⊤, List, [], ◌∷◌}
 use Rattle.std.specs.Prelude.{length, Option, Some, None}
 use Rattle.std.specs.Ordering.{is_lt}
 use Rattle.sg_base.specs.Cuts.{Mark, mark_cmp}

@@ -1,6 +1,6 @@
 -- A node by its ways to the end, and what it means that an entry is over a node. No public clause
 -- cites it. Source: weighted finite transducers over min-plus.
-use Rattle.std.specs.Prelude.{ℕ, ◌≡◌, ◌<◌, ◌≤◌, ◌+◌, ◌-◌, ◌*◌, true, List, [], ◌∷◌, ◌++◌}
+use Rattle.std.specs.Prelude.{ℕ, ◌≡◌, ◌<◌, ◌≤◌, ◌+◌, ◌-◌, ◌*◌, true, List, ◌∷◌, ◌++◌}
 use Rattle.sg_base.specs.Lists.{In, Pairs}
 use Rattle.sg_base.specs.declared.limits.TheConstants.{MOST_WEIGHT}
 use Rattle.sg_base.specs.declared.node.Edge.{Edge}
