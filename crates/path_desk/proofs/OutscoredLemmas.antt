@@ -6,7 +6,8 @@ use Rattle.std.specs.List.{AllByRecursion}
 use Rattle.std.proofs.lemmas.Bool.Decides.{nat_tests}
 use Rattle.sg_base.specs.Ranking.{put_in}
 use Rattle.sg_base.proofs.Orders.{at_most_below}
-use Rattle.path_desk.specs.Entries.{Queued, entry_cmp}
+use Rattle.path_desk.specs.declared.entry.Entry.{Entry}
+use Rattle.path_desk.specs.Entries.{Queued, queued, entry_cmp}
 use Rattle.path_desk.specs.Orders.{InOrder}
 use Rattle.path_desk.specs.Desks.{PlainDesk, PlainQueue, queue, last_of, shed, first_of, put_queued}
 use Rattle.path_desk.specs.Desks.{outscores, is_outscored, has_room, put_entry, with_queue}
@@ -88,3 +89,19 @@ pub unchanged-behind : (d : PlainDesk) (x : Queued) → has_room d ≡ false
 unchanged-behind d x full same =
     ap (λ b. with_queue d (put_queued b x (queue d.waiting d.dropped))) full
     ∙ ap (λ q. with_queue d q) same
+
+-- from the clauses of both tests
+pub unchanged-calls : (q : PlainQueue) (xs s : List Queued) (o p : Option Queued) (score : ℕ)
+    (a b : Bool) → queue xs o ≡ q → InOrder xs → s ≡ xs → p ≡ o
+    → a ≡ outscores true score (slice_get s (length s - 1)) → a ≡ true
+    → b ≡ outscores false score p → b ≡ true → (entry : Entry) (bytes : List ℕ)
+    → entry.score ≡ score → put_queued false (queued entry bytes) q ≡ q
+unchanged-calls q xs s o p score a b view up same dropped is_a yes_a is_b yes_b entry bytes e =
+    let last : outscores true score (slice_get xs (length xs - 1)) ≡ true =
+    ap (λ zs. outscores true score (slice_get zs (length zs - 1))) (sym same) ∙ sym is_a ∙ yes_a in
+    let first : outscores false score o ≡ true =
+    ap (λ z. outscores false score z) (sym dropped) ∙ sym is_b ∙ yes_b in
+    let all : is_outscored (queue xs o) score ≡ true =
+    ap (λ z. z && outscores false score o) last ∙ first in
+    ap (λ z. put_queued false (queued entry bytes) z) (sym view)
+    ∙ unchanged-outscored (queue xs o) score (queued entry bytes) e up all ∙ view

@@ -1,7 +1,7 @@
 //! The workspace.
 ghost use Rattle.std.specs.Prelude.{◌≡◌, ◌<◌, ◌≤◌, ◌+◌, ◌++◌, [], ◌∷◌, List, ℕ, true, None, Some};
 ghost use Rattle.std.specs.Prelude.{OnOk, OnErr, IfOk, IsSome, MatchOption, option_copied};
-ghost use Rattle.std.specs.Prelude.{option_map, if◌then◌else◌};
+ghost use Rattle.std.specs.Prelude.{option_map, if◌then◌else◌, nat_lt};
 ghost use Rattle.std.specs.Vec.{vec_capacity};
 ghost use Rattle.sg_base.specs.Cuts.{mark};
 ghost use Rattle.path_desk.specs.declared.entry.Entry.{Entry as PlainEntry};
@@ -19,7 +19,6 @@ use crate::report::SegReport;
 use sg_base::{Bytes, Cut, Hit};
 use std::alloc::{AllocError, Global};
 use std::marker::Model;
-use std::mem::replace;
 
 /// The workspace of a search. An entry that comes takes over the memory of one that went.
 #[derive(Drop)]
@@ -75,12 +74,19 @@ fn taken_room(reached: u32, is_following: bool) -> u64
     }
 }
 
+fn is_below(queued: usize, taken: u64, room: u32) -> bool
+    requires { queued + taken ≤ room }
+    ensures { result ≡ nat_lt (queued + taken) room }
+{
+    queued as u64 + taken < room as u64
+}
+
 fn cut_of(alloc: Global, held: &Held, generation: u32, room: u32) -> Result<Cut, AllocError>
     ensures { IfOk result (λ c. c ≡ cut_at generation room held.now) }
 {
     Ok(Cut {
-        score: held.entry.score,
-        key: Bytes::of(alloc, key_part(held.bytes.as_slice()))?,
+        score: held.entry().score,
+        key: Bytes::of(alloc, key_part(held.bytes()))?,
         generation,
         room,
     })
@@ -107,14 +113,14 @@ impl Desk {
         }
     }
 
-    /// Reserves the queue's places, and two lists of k hits.
+    /// Reserves the queue's places, and two lists of k hits. Where they are there already it takes
+    /// no memory.
     pub fn reserve(&mut self, need: Need) -> Result<(), AllocError>
         ensures ok { OnOk result (self.new ≡ reserved self.old need) }
         ensures err { OnErr result (self.new ≡ self.old) }
     {
-        let lists = Lists::reserved(self.alloc, need.k)?;
         self.queue.reserve(need.room as usize + 2)?;
-        self.lists = lists;
+        self.lists.reserve(self.alloc, need.k)?;
         self.need = need;
         Ok(())
     }
@@ -133,7 +139,8 @@ impl Desk {
     /// Puts a start in, with its key bytes. After an Err the next call on the queue is `begin`.
     pub fn put_start(&mut self, entry: Entry, key: &[u8]) -> Result<(), AllocError>
         ensures ok { OnOk result (self.new ≡ put_entry self.old (queued entry key.now)) }
-        ensures lists { (self.new.lists ≡ self.old.lists) × (self.new.need ≡ self.old.need) }
+        ensures lists { self.new.lists ≡ self.old.lists }
+        ensures need { self.new.need ≡ self.old.need }
     {
         let has_room = self.has_room();
         self.queue.put(self.alloc, has_room, entry, key)
@@ -147,10 +154,7 @@ impl Desk {
             × (self.old.waiting ≡ queued e path ∷ rest)
             × (self.new ≡ following self.old rest path)) }
     {
-        let held = self.queue.take_first()?;
-        let entry = held.entry;
-        let former = replace(&mut self.path, held.bytes);
-        self.queue.recycle(former);
+        let entry = self.queue.take_first(&mut self.path)?;
         self.is_following = true;
         Some(entry)
     }
@@ -171,7 +175,8 @@ impl Desk {
         requires { IsSome self.old.followed }
         ensures ok { OnOk result
             (self.new ≡ put_entry self.old (queued entry (path_of self.old ++ label ∷ []))) }
-        ensures lists { (self.new.lists ≡ self.old.lists) × (self.new.need ≡ self.old.need) }
+        ensures lists { self.new.lists ≡ self.old.lists }
+        ensures need { self.new.need ≡ self.old.need }
     {
         let has_room = self.has_room();
         // The label stands at the path's end while its bytes are compared and copied.
@@ -186,7 +191,8 @@ impl Desk {
     pub fn step(&mut self, label: u8) -> Result<(), AllocError>
         requires { IsSome self.old.followed }
         ensures ok { OnOk result (self.new ≡ stepped self.old label) }
-        ensures lists { (self.new.lists ≡ self.old.lists) × (self.new.need ≡ self.old.need) }
+        ensures lists { self.new.lists ≡ self.old.lists }
+        ensures need { self.new.need ≡ self.old.need }
     {
         self.path.push(label)?;
         Ok(())
@@ -245,6 +251,6 @@ impl Desk {
         ensures { result ≡ has_room self.now }
     {
         let taken = taken_room(self.reached, self.is_following);
-        self.queue.len() as u64 + taken < self.room as u64
+        is_below(self.queue.len(), taken, self.room)
     }
 }

@@ -1,5 +1,5 @@
 //! Entries with their bytes, as the queue holds them.
-ghost use Rattle.std.specs.Prelude.{◌≡◌, ◌<◌, [], IfOk, IfSome, length};
+ghost use Rattle.std.specs.Prelude.{◌≡◌, ◌<◌, [], IfOk, OnOk, IfSome, length};
 ghost use Rattle.std.specs.List.{position_from};
 ghost use Rattle.std.specs.Ordering.{is_lt};
 ghost use Rattle.sg_base.specs.Cuts.{mark, mark_cmp};
@@ -8,15 +8,22 @@ ghost use Rattle.path_desk.specs.Orders.{tie_cmp, ends_key};
 
 use crate::entry::Entry;
 use sg_base::KEY_END;
-use std::alloc::AllocError;
+use std::alloc::{AllocError, Global};
 use std::cmp::Ordering;
 use std::marker::Model;
+use std::mem::swap;
 
-/// An entry with its path bytes after the context.
+/// An entry with its path bytes after the context. It stays where it is: a queue moves the pointer
+/// to it alone.
 #[derive(Drop)]
 pub struct Held {
-    pub entry: Entry,
-    pub bytes: Vec<u8>,
+    inside: Box<Inside>,
+}
+
+#[derive(Drop)]
+struct Inside {
+    entry: Entry,
+    bytes: Vec<u8>,
 }
 
 impl Model for Held {
@@ -24,7 +31,10 @@ impl Model for Held {
 
     ghost Value = { Queued };
 
-    ghost view = { λ h. record { entry = h.entry; bytes = h.bytes.items } };
+    ghost view = { λ h. record {
+      entry = h.inside.value.entry;
+      bytes = h.inside.value.bytes.items;
+    } };
 }
 
 fn ends_key(byte: u8) -> bool
@@ -61,24 +71,52 @@ fn tie_cmp(a: &[u8], a_start: u32, b: &[u8], b_start: u32) -> Ordering
 }
 
 impl Held {
-    /// An entry with a copy of these bytes, in the memory of `place`.
-    pub fn of(place: Vec<u8>, entry: Entry, bytes: &[u8]) -> Result<Held, AllocError>
-        requires { place.items ≡ [] }
+    /// An entry with a copy of these bytes.
+    pub fn of(alloc: Global, entry: Entry, bytes: &[u8]) -> Result<Held, AllocError>
         ensures { IfOk result (λ h. h ≡ queued entry bytes.now) }
     {
-        let mut own = place;
-        own.extend_from_slice(bytes)?;
-        Ok(Held { entry, bytes: own })
+        let bytes = Vec::from_slice(alloc, bytes)?;
+        let inside = Box::new(alloc, Inside { entry, bytes })?;
+        Ok(Held { inside })
+    }
+
+    /// Another entry in the same memory. Takes more only for bytes that don't fit.
+    pub fn write(&mut self, entry: Entry, bytes: &[u8]) -> Result<(), AllocError>
+        ensures { OnOk result (self.new ≡ queued entry bytes.now) }
+    {
+        self.inside.entry = entry;
+        self.inside.bytes.clear();
+        self.inside.bytes.extend_from_slice(bytes)
+    }
+
+    /// Gives its bytes away, and keeps the memory of those that were there.
+    pub fn give_bytes(&mut self, to: &mut Vec<u8>)
+        ensures { to.new.items ≡ self.old.bytes }
+    {
+        swap(&mut self.inside.bytes, to);
+    }
+
+    pub fn entry(&self) -> Entry
+        ensures { result ≡ self.now.entry }
+    {
+        self.inside.entry
+    }
+
+    pub fn bytes(&self) -> &[u8]
+        ensures { result.now ≡ self.now.bytes }
+    {
+        self.inside.bytes.as_slice()
     }
 
     /// Where it stands beside an entry with these bytes.
     pub fn compare(&self, entry: Entry, bytes: &[u8]) -> Ordering
         ensures { result ≡ entry_cmp self.now (queued entry bytes.now) }
     {
-        if entry.score != self.entry.score {
-            return entry.score.cmp(&self.entry.score);
+        let own = self.entry();
+        if entry.score != own.score {
+            return entry.score.cmp(&own.score);
         }
-        tie_cmp(self.bytes.as_slice(), self.entry.start, bytes, entry.start)
+        tie_cmp(self.bytes(), own.start, bytes, entry.start)
     }
 
     /// Whether a row with this score and key stands before it.
@@ -86,10 +124,10 @@ impl Held {
         ensures { result ≡ is_lt (mark_cmp (mark score key.now) (mark_of self.now)) }
     {
         let order = self
-            .entry
+            .entry()
             .score
             .cmp(&score)
-            .then(key.cmp(key_part(self.bytes.as_slice())));
+            .then(key.cmp(key_part(self.bytes())));
         order.is_lt()
     }
 }

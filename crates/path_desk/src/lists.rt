@@ -1,5 +1,5 @@
 //! The lists of hits that a desk keeps.
-ghost use Rattle.std.specs.Prelude.{◌≡◌, ◌<◌, ◌≤◌, ◌+◌, [], IfOk};
+ghost use Rattle.std.specs.Prelude.{◌≡◌, ◌<◌, ◌≤◌, ◌+◌, [], true, IfOk, OnOk, OnErr, IsSomeAnd};
 ghost use Rattle.std.specs.Vec.{vec_capacity};
 ghost use Rattle.path_desk.specs.Lists.{lists_of, kept_count};
 
@@ -29,6 +29,16 @@ impl Model for Lists {
         × IfSome l.second (λ v. (v.items ≡ []) × (l.places ≤ vec_capacity v)) };
 }
 
+// Whether a list is there, and has these places.
+fn has_places(list: &Option<Vec<Hit>>, places: u32) -> bool
+    ensures { result ≡ true → IsSomeAnd list.now (λ v. places ≤ vec_capacity v) }
+{
+    match list {
+        None => false,
+        Some(hits) => places as usize <= hits.capacity(),
+    }
+}
+
 impl Lists {
     pub fn new() -> Lists
         ensures { result ≡ lists_of 0 0 }
@@ -41,7 +51,7 @@ impl Lists {
     }
 
     /// Two lists with these places.
-    pub fn reserved(alloc: Global, places: u32) -> Result<Lists, AllocError>
+    fn reserved(alloc: Global, places: u32) -> Result<Lists, AllocError>
         ensures { IfOk result (λ l. l ≡ lists_of places 2) }
     {
         Ok(Lists {
@@ -49,6 +59,19 @@ impl Lists {
             first: Some(Vec::with_capacity(alloc, places as usize)?),
             second: Some(Vec::with_capacity(alloc, places as usize)?),
         })
+    }
+
+    /// Sees to it that there are two lists, with these places. Takes no memory where they are there.
+    pub fn reserve(&mut self, alloc: Global, places: u32) -> Result<(), AllocError>
+        ensures ok { OnOk result (self.new ≡ lists_of places 2) }
+        ensures err { OnErr result (self.new ≡ self.old) }
+    {
+        if has_places(&self.first, places) && has_places(&self.second, places) {
+            self.places = places;
+            return Ok(());
+        }
+        *self = Lists::reserved(alloc, places)?;
+        Ok(())
     }
 
     pub fn take(&mut self) -> Vec<Hit>

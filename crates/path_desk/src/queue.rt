@@ -14,8 +14,8 @@ use crate::spare::Spare;
 use std::alloc::{AllocError, Global};
 use std::marker::Model;
 
-/// Entries in order, the first in order of all that were dropped, and byte strings of entries that
-/// went, whose memory those that come use again.
+/// Entries in order, the first in order of all that were dropped, and entries that went, whose
+/// memory those that come use again.
 #[derive(Drop)]
 pub struct Queue {
     waiting: Vec<Held>,
@@ -52,7 +52,7 @@ fn keep_first(dropped: &mut Option<Held>, held: Held) -> Option<Held>
         *dropped = Some(held);
         return None;
     };
-    if other.compare(held.entry, held.bytes.as_slice()).is_lt() {
+    if other.compare(held.entry(), held.bytes()).is_lt() {
         *dropped = Some(other);
         Some(held)
     } else {
@@ -61,10 +61,10 @@ fn keep_first(dropped: &mut Option<Held>, held: Held) -> Option<Held>
     }
 }
 
-// Keeps the byte string of an entry that goes.
+// Keeps the memory of an entry that goes.
 fn give_held(spare: &mut Spare, held: Option<Held>) {
     if let Some(held) = held {
-        spare.give(held.bytes);
+        spare.give(held);
     }
 }
 
@@ -84,7 +84,7 @@ fn remember(
         Some(other) => !other.compare(entry, bytes).is_lt(),
     };
     if is_first {
-        let held = Held::of(spare.take(alloc), entry, bytes)?;
+        let held = spare.take(alloc, entry, bytes)?;
         give_held(spare, dropped.take());
         *dropped = Some(held);
     }
@@ -106,12 +106,12 @@ fn exchange_last(waiting: &mut Vec<Held>, at: usize, held: Held) -> Result<Held,
     Ok(last)
 }
 
-// Leaves no entry, and keeps their byte strings.
+// Leaves no entry, and keeps their memory.
 fn give_all(spare: &mut Spare, waiting: &mut Vec<Held>)
     ensures { waiting.new.items ≡ [] }
 {
     while let Some(held) = waiting.pop() {
-        spare.give(held.bytes);
+        spare.give(held);
     }
 }
 
@@ -121,7 +121,7 @@ fn outscores(otherwise: bool, score: u64, held: Option<&Held>) -> bool
 {
     match held {
         None => otherwise,
-        Some(held) => score < held.entry.score,
+        Some(held) => score < held.entry().score,
     }
 }
 
@@ -177,7 +177,7 @@ impl Queue {
         ensures bound { length self.new.waiting ≤ length self.old.waiting + 1 }
     {
         let at = place_of(self.waiting.as_slice(), entry, bytes);
-        let held = Held::of(self.spare.take(alloc), entry, bytes)?;
+        let held = self.spare.take(alloc, entry, bytes)?;
         self.waiting.insert(at, held)?;
         Ok(())
     }
@@ -192,7 +192,7 @@ impl Queue {
         if at == self.waiting.len() {
             return remember(alloc, &mut self.spare, &mut self.dropped, entry, bytes);
         }
-        let held = Held::of(self.spare.take(alloc), entry, bytes)?;
+        let held = self.spare.take(alloc, entry, bytes)?;
         let last = exchange_last(&mut self.waiting, at, held)?;
         let behind = keep_first(&mut self.dropped, last);
         give_held(&mut self.spare, behind);
@@ -230,22 +230,19 @@ impl Queue {
             && outscores(false, score, self.dropped.as_ref())
     }
 
-    /// Takes the first entry.
-    pub fn take_first(&mut self) -> Option<Held>
+    /// Takes the first entry, and puts its bytes in the place of those in `path`.
+    pub fn take_first(&mut self, path: &mut Vec<u8>) -> Option<Entry>
         ensures { MatchOption result ((self.old.waiting ≡ []) × (self.new ≡ self.old))
-            (λ h. (self.old.waiting ≡ h ∷ self.new.waiting)
+            (λ e. (self.old.waiting ≡ queued e path.new.items ∷ self.new.waiting)
             × (self.new.dropped ≡ self.old.dropped)) }
     {
         if self.waiting.is_empty() {
             return None;
         }
-        Some(self.waiting.remove(0))
-    }
-
-    /// Keeps a byte string that was taken with an entry.
-    pub fn recycle(&mut self, bytes: Vec<u8>)
-        ensures { self.new ≡ self.old }
-    {
-        self.spare.give(bytes);
+        let mut held = self.waiting.remove(0);
+        let entry = held.entry();
+        held.give_bytes(path);
+        self.spare.give(held);
+        Some(entry)
     }
 }

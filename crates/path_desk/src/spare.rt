@@ -1,12 +1,15 @@
-//! Byte strings that stand ready to be used again.
-ghost use Rattle.std.specs.Prelude.{◌≡◌, []};
+//! Entries that went, whose memory those that come use again.
+ghost use Rattle.std.specs.Prelude.{◌≡◌, IfOk};
+ghost use Rattle.path_desk.specs.Entries.{queued};
 
+use crate::entry::Entry;
+use crate::held::Held;
 use std::alloc::{AllocError, Global};
 
-/// Byte strings that entries had, with their memory: a search whose desk is warm takes none.
+/// Entries that went, with their memory: a search whose desk is warm takes none.
 #[derive(Drop)]
 pub struct Spare {
-    free: Vec<Vec<u8>>,
+    free: Vec<Held>,
 }
 
 impl Spare {
@@ -21,27 +24,27 @@ impl Spare {
         self.free.reserve(places)
     }
 
-    /// An empty byte string, where there is one with memory.
-    pub fn take(&mut self, alloc: Global) -> Vec<u8>
-        ensures { result.items ≡ [] }
+    /// An entry with a copy of these bytes, in the memory of one that went, where there is one.
+    pub fn take(&mut self, alloc: Global, entry: Entry, bytes: &[u8]) -> Result<Held, AllocError>
+        ensures { IfOk result (λ h. h ≡ queued entry bytes.now) }
     {
         match self.free.pop() {
-            None => Vec::new(alloc),
-            Some(bytes) => emptied(bytes),
+            None => Held::of(alloc, entry, bytes),
+            Some(held) => rewritten(held, entry, bytes),
         }
     }
 
-    /// Keeps a byte string where there is a place.
-    pub fn give(&mut self, bytes: Vec<u8>) {
+    /// Keeps the memory of an entry that goes, where there is a place.
+    pub fn give(&mut self, held: Held) {
         if self.free.len() < self.free.capacity() {
-            self.free.push_reserved(bytes);
+            self.free.push_reserved(held);
         }
     }
 }
 
-fn emptied(mut bytes: Vec<u8>) -> Vec<u8>
-    ensures { result.items ≡ [] }
+fn rewritten(mut held: Held, entry: Entry, bytes: &[u8]) -> Result<Held, AllocError>
+    ensures { IfOk result (λ h. h ≡ queued entry bytes.now) }
 {
-    bytes.clear();
-    bytes
+    held.write(entry, bytes)?;
+    Ok(held)
 }
