@@ -1,11 +1,10 @@
 //! From one start to the next under a query context with `prefix`.
 ghost use Rattle.std.specs.Prelude.{MatchOption};
 ghost use Rattle.fst_code.specs.Lists.{list_of};
-ghost use Rattle.fst_code.specs.Views.{edges_of};
 ghost use Rattle.fst_code.specs.Transducers.{IsTransducer};
 ghost use Rattle.fst_code.specs.Bytes.{nodes_of};
 ghost use Rattle.fst_walk.specs.Starts.{AllHaveContexts};
-ghost use Rattle.fst_walk.specs.Walks.{InGroup, IsPast, IsAtNext, ShowsTop};
+ghost use Rattle.fst_walk.specs.Walks.{InGroup, IsPast, IsAtNext};
 
 use crate::spot::Spot;
 use crate::stepping::{child_from, start_at};

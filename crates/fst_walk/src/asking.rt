@@ -1,5 +1,5 @@
 //! Which of a query's contexts comes next.
-ghost use Rattle.std.specs.Prelude.{◌≡◌, ◌≤◌, ℕ, List, MatchOption, false, true, length, None};
+ghost use Rattle.std.specs.Prelude.{◌≡◌, ◌≤◌, MatchOption, false, true, length, None};
 ghost use Rattle.std.specs.Option.{option_copied};
 ghost use Rattle.sg_context.specs.Boosts.{PlainQueryContext};
 ghost use Rattle.sg_base.specs.ByteStrings.{begins};

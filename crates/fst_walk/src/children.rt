@@ -3,7 +3,7 @@
 use crate::spot::Spot;
 
 /// A node under a label.
-#[derive(Clone, Copy, Debug)]
+#[derive(Clone, Copy)]
 pub(crate) struct Child {
     pub label: u8,
     pub spot: Spot,

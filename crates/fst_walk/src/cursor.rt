@@ -26,7 +26,7 @@ pub struct Cursor<'a> {
 }
 
 impl<'a> Model for Cursor<'a> {
-    ghost use Rattle.std.specs.Prelude.{◌≡◌, ◌≤◌, true, false, length, take, drop};
+    ghost use Rattle.std.specs.Prelude.{◌≡◌, ◌≤◌, take, drop};
     ghost use Rattle.fst_code.specs.Bytes.{nodes_of};
     ghost use Rattle.fst_code.specs.Lists.{list_of};
     ghost use Rattle.fst_code.specs.Transducers.{IsTransducer};
@@ -49,9 +49,11 @@ impl<'a> Model for Cursor<'a> {
 }
 
 impl<'a> Cursor<'a> {
+    /// Before the first path, with none at hand.
     pub fn new(t: &'a Transducer) -> Cursor<'a>
         ensures nodes { result.nodes ≡ nodes_of t.entry.now }
         ensures paths { result.paths ≡ list_of t.entry.now }
+        ensures path { result.path ≡ [] }
     {
         match root_spot(t) {
             None => Cursor {
@@ -75,7 +77,7 @@ impl<'a> Cursor<'a> {
         }
     }
 
-    /// The cost of the next path, None after the last.
+    /// The cost of the next path, and None after the last, which leaves the path at hand.
     pub fn next<L>(&mut self, steps: &mut Steps<L>) -> Option<Cost>
         ensures nodes { self.new.nodes ≡ self.old.nodes }
         ensures path { MatchOption result ((self.old.paths ≡ []) × (self.new.paths ≡ [])
@@ -93,7 +95,7 @@ impl<'a> Cursor<'a> {
         Some(self.trail.top().cost)
     }
 
-    /// The path that was given last.
+    /// The path that was given last. It is empty before the first.
     pub fn path(&self) -> &[u8]
         ensures { result.now ≡ self.now.path }
     {

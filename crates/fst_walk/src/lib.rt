@@ -8,6 +8,7 @@ mod arcs;
 mod asking;
 mod children;
 mod cursor;
+mod laws;
 mod limits;
 mod seeking;
 mod spot;
@@ -19,6 +20,7 @@ mod trailing;
 mod walk;
 
 pub use cursor::Cursor;
+pub use laws::starts_are_what_matches_in_ascending_order;
 pub use seeking::seek;
 pub use spot::Spot;
 pub use starts::{Start, Starts};

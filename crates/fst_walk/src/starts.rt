@@ -72,6 +72,7 @@ impl<'a, L> Model for Starts<'a, L> {
 }
 
 impl<'a, L> Starts<'a, L> {
+    /// Before the first start. Each path begins with a context and the byte that ends it.
     pub fn new(t: &'a Transducer, query: &'a Query) -> Starts<'a, L>
         requires { AllHaveContexts (list_of t.now) }
         ensures nodes { result.nodes ≡ nodes_of t.entry.now }
@@ -90,7 +91,7 @@ impl<'a, L> Starts<'a, L> {
         }
     }
 
-    /// The next start, None after the last.
+    /// The next start, and None after the last. Takes no more steps than it takes off the budget.
     pub fn next(&mut self, steps: &mut Steps<L>) -> Option<Start>
         ensures nodes { self.new.nodes ≡ self.old.nodes }
         ensures query { self.new.query ≡ self.old.query }

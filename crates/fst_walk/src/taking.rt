@@ -1,6 +1,5 @@
 //! Query contexts, one after the other.
 ghost use Rattle.std.specs.Prelude.{◌≡◌, [], false, true, MatchOption};
-ghost use Rattle.sg_context.specs.Boosts.{PlainQueryContext};
 ghost use Rattle.fst_code.specs.Lists.{list_of};
 ghost use Rattle.fst_code.specs.Transducers.{IsTransducer};
 ghost use Rattle.fst_code.specs.Bytes.{nodes_of};

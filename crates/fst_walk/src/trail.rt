@@ -6,7 +6,7 @@ use crate::limits::{MOST_PATH_BYTES, MOST_PATH_FRONTS};
 use crate::spot::Spot;
 
 /// Where a trail stands.
-#[derive(Clone, Copy, Debug)]
+#[derive(Clone, Copy)]
 pub(crate) enum TrailStage {
     /// At the root, before the first path.
     Fresh,

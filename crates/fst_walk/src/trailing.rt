@@ -1,5 +1,5 @@
 //! From one path to the next.
-ghost use Rattle.std.specs.Prelude.{◌≡◌, ◌≤◌, ◌+◌, ℕ, length, get_or, true, false};
+ghost use Rattle.std.specs.Prelude.{◌≡◌, ◌+◌, ℕ, length, get_or, true, false};
 ghost use Rattle.std.specs.Bool.{MatchBool as ByBool};
 ghost use Rattle.fst_code.specs.Lists.{list_of};
 ghost use Rattle.fst_code.specs.Transducers.{IsTransducer};

@@ -10,7 +10,7 @@ use crate::spot::Spot;
 use sg_base::NodeId;
 
 /// How far the walk is.
-#[derive(Clone, Copy, Debug)]
+#[derive(Clone, Copy)]
 pub(crate) enum Stage {
     /// No query context was taken up.
     Fresh,

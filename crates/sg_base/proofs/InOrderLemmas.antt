@@ -1,10 +1,15 @@
--- What a list in order keeps: what holds of all and of each two, its length, and its filters.
+-- What a list in order keeps: its items, what holds of all and of each two, its length, and its
+-- filters.
 use Rattle.std.proofs.Common.{◌≡◌, ◌+◌, ℕ, suc, Bool, true, false, cond, ◌⊎◌, inl, inr, filter}
 use Rattle.std.proofs.Common.{List, [], ◌∷◌, length, refl, sym, ap, ◌∙◌, subst, zero-add, Ordering}
 use Rattle.std.specs.Ordering.{is_lt}
 use Rattle.std.specs.declared.cmp.Ordering.TheVariants.{Equal}
 use Rattle.std.specs.Cmp.{IsTotalOrder}
 use Rattle.std.specs.List.{AllByRecursion}
+use Rattle.std.specs.List.Sorted.{IsPermutation}
+use Rattle.std.proofs.lemmas.List.Sorted.{IsPermutation-refl, IsPermutation-sym}
+use Rattle.std.proofs.lemmas.List.Sorted.{IsPermutation-trans, IsPermutation-cons}
+use Rattle.std.proofs.lemmas.List.Sorted.{IsPermutation-middle}
 use Rattle.sg_base.specs.Lists.{In, Pairs}
 use Rattle.sg_base.specs.Ranking.{put_in, in_order}
 use Rattle.sg_base.proofs.ListLemmas.{each_in, all_of}
@@ -12,6 +17,26 @@ use Rattle.sg_base.proofs.Sorting.{NoneBelow, Rises, rises-in_order, rising_uniq
 use Rattle.sg_base.proofs.Sorting.{total_of-in_order}
 
 module _ {X : Type 0} (R : X → X → Ordering) where
+  -- its items, each as often
+  moves-put_at : (x y : X) (ys : List X) (b : Bool) → IsPermutation (x ∷ ys) (put_in R x ys)
+      → IsPermutation (x ∷ (y ∷ ys)) (cond b (y ∷ put_in R x ys) (x ∷ (y ∷ ys)))
+  moves-put_at x y ys true h =
+      IsPermutation-trans (x ∷ (y ∷ ys)) (y ∷ (x ∷ ys)) (y ∷ put_in R x ys)
+      (IsPermutation-sym (y ∷ (x ∷ ys)) (x ∷ (y ∷ ys)) (IsPermutation-middle (y ∷ []) x ys))
+      (IsPermutation-cons y (x ∷ ys) (put_in R x ys) h)
+  moves-put_at x y ys false h = IsPermutation-refl (x ∷ (y ∷ ys))
+
+  moves-put_in : (x : X) (ys : List X) → IsPermutation (x ∷ ys) (put_in R x ys)
+  moves-put_in x [] = IsPermutation-refl (x ∷ [])
+  moves-put_in x (y ∷ ys) = moves-put_at x y ys (is_lt (R y x)) (moves-put_in x ys)
+
+  pub moves-in_order : (xs : List X) → IsPermutation xs (in_order R xs)
+  moves-in_order [] = IsPermutation-refl []
+  moves-in_order (x ∷ xs) =
+      IsPermutation-trans (x ∷ xs) (x ∷ in_order R xs) (in_order R (x ∷ xs))
+      (IsPermutation-cons x xs (in_order R xs) (moves-in_order xs))
+      (moves-put_in x (in_order R xs))
+
   -- what holds of all
   all-put_at : (P : X → Type 0) (x y : X) (ys : List X) (b : Bool) → P x → P y
       → AllByRecursion P ys → AllByRecursion P (put_in R x ys)

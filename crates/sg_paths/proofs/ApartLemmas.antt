@@ -1,6 +1,6 @@
 -- No two entries of a list of documents have one document, context and key.
-use Rattle.std.proofs.Common.{◌≡◌, ◌≤◌, ◌<◌, ◌+◌, ℕ, ◌⊎◌, inl, inr, map, List, [], ◌∷◌, ◌++◌}
-use Rattle.std.proofs.Common.{refl, sym, ap, ◌∙◌, arith}
+use Rattle.std.proofs.Common.{◌≡◌, ◌≤◌, ◌+◌, ℕ, inl, inr, map, List, [], ◌∷◌}
+use Rattle.std.proofs.Common.{sym, ap, arith}
 use Rattle.sg_base.specs.Lists.{In, Pairs}
 use Rattle.sg_base.specs.Ranking.{in_order}
 use Rattle.sg_base.proofs.InOrderLemmas.{pairs-in_order}

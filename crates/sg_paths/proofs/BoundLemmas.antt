@@ -1,6 +1,6 @@
 -- Documents have at most as many paths as contexts are given.
-use Rattle.std.proofs.Common.{◌≡◌, ◌≤◌, ◌<◌, ◌+◌, ℕ, suc, Bool, true, false, not, cond, max, map}
-use Rattle.std.proofs.Common.{List, [], ◌∷◌, ◌++◌, length, filter, refl, sym, ap, ◌∙◌, arith}
+use Rattle.std.proofs.Common.{◌≤◌, ◌+◌, ℕ, suc, Bool, true, false, not, cond, max, map}
+use Rattle.std.proofs.Common.{List, [], ◌∷◌, length, filter, arith}
 use Rattle.std.specs.Prelude.{bytes_eq}
 use Rattle.std.specs.List.{list_any}
 use Rattle.std.proofs.lemmas.List.{length-map, length-append}
@@ -8,7 +8,7 @@ use Rattle.sg_paths.specs.Documents.{PlainSuggestion, PlainDocument}
 use Rattle.sg_paths.specs.Operations.{PlainNumbered}
 use Rattle.sg_paths.specs.Paths.{PlainPath, paths, distinct_texts, contexts_of}
 use Rattle.sg_paths.specs.Paths.{entries_from, is_kept_over}
-use Rattle.sg_paths.specs.AllPaths.{Entry, entry_of, path_entries}
+use Rattle.sg_paths.specs.AllPaths.{entry_of, path_entries}
 use Rattle.sg_paths.specs.PathBounds.{contexts_given, contexts_given_in}
 
 filter_at : {X : Type 0} (x : X) (xs : List X) (n : ℕ) (b : Bool) → length xs ≤ n

@@ -1,12 +1,12 @@
 -- The order of bytes behind equal fronts, behind ends, and of numbers.
-use Rattle.std.proofs.Common.{◌≡◌, ◌≤◌, ◌<◌, ◌+◌, ◌*◌, ◌/◌, ◌%◌, ℕ, zero, suc, Bool, true, false}
-use Rattle.std.proofs.Common.{not, ◌&&◌, cond, ◌⊎◌, inl, inr, Ordering}
-use Rattle.std.proofs.Common.{List, [], ◌∷◌, ◌++◌, length, refl, sym, ap, ◌∙◌, subst, arith, eqb}
-use Rattle.std.proofs.Common.{eq-eqb, eqb-true, ltb}
+use Rattle.std.proofs.Common.{◌≡◌, ◌≤◌, ◌<◌, ◌+◌, ◌*◌, ◌/◌, ◌%◌, ℕ, Bool, true, false}
+use Rattle.std.proofs.Common.{not, ◌&&◌, cond}
+use Rattle.std.proofs.Common.{List, [], ◌∷◌, ◌++◌, length, refl, sym, ◌∙◌, arith, eqb}
+use Rattle.std.proofs.Common.{eq-eqb, ltb}
 use Rattle.std.specs.Int.{w32, to_be_bytes}
 use Rattle.sg_base.specs.ByteStrings.{is_less, lacks}
 use Rattle.sg_base.proofs.ByteStringLemmas.{Byte, same, less, more, byte}
-use Rattle.std.proofs.lemmas.Bool.{cases_order, ne_eqb, lt-ltb, le-ltb, and_parts, eqb-false}
+use Rattle.std.proofs.lemmas.Bool.{ne_eqb, lt-ltb, eqb-false}
 
 pub front_less : (h x y : List ℕ) → is_less (h ++ x) (h ++ y) ≡ is_less x y
 front_less [] x y = refl

@@ -1,7 +1,7 @@
 -- The different contexts of a suggestion, one by one.
-use Rattle.std.proofs.Common.{◌≡◌, ◌≤◌, ◌<◌, ◌+◌, ◌++◌, ◌∷◌, [], ℕ, List, length, take, drop}
-use Rattle.std.proofs.Common.{get_or, map, refl, sym, ap, ◌∙◌, arith, Bool, true, false, not, ◌||◌}
-use Rattle.std.proofs.Common.{◌&&◌, cond, append_assoc, ◌⊎◌, inl, inr, subst}
+use Rattle.std.proofs.Common.{◌≡◌, ◌<◌, ◌+◌, ◌++◌, ◌∷◌, [], ℕ, List, length, take, drop}
+use Rattle.std.proofs.Common.{get_or, map, refl, sym, ap, ◌∙◌, Bool, true, false, not, ◌||◌}
+use Rattle.std.proofs.Common.{◌&&◌, cond, append_assoc, subst}
 use Rattle.std.specs.Prelude.{bytes_eq, filter}
 use Rattle.std.specs.List.{list_any}
 use Rattle.std.specs.Cmp.Lexicographic.{bytes_decides}

@@ -1,10 +1,10 @@
 -- The number of a path is how many entries with its context and key come before it.
-use Rattle.std.proofs.Common.{◌≡◌, ◌≤◌, ◌<◌, ◌+◌, ℕ, zero, suc, Bool, true, false, not, ◌&&◌, ◌||◌}
-use Rattle.std.proofs.Common.{cond, nat_eq, nat_lt, ◌⊎◌, inl, inr, Ordering, Option, Some, None}
-use Rattle.std.proofs.Common.{List, [], ◌∷◌, ◌++◌, length, refl, sym, ap, ◌∙◌, subst, arith}
+use Rattle.std.proofs.Common.{◌≡◌, ◌<◌, ◌+◌, ℕ, Bool, true, false, ◌&&◌, ◌||◌}
+use Rattle.std.proofs.Common.{cond, nat_eq, nat_lt, ◌⊎◌, inl, inr, Ordering, Some, None}
+use Rattle.std.proofs.Common.{List, [], ◌∷◌, ◌++◌, refl, sym, ap, ◌∙◌, subst, arith}
 use Rattle.std.specs.Prelude.{bytes_eq, count_by}
-use Rattle.std.specs.List.{AllByRecursion, sum_by}
-use Rattle.std.specs.Cmp.{IsTotalOrder, IsStrictWeakOrder, then_total, on_total}
+use Rattle.std.specs.List.{AllByRecursion}
+use Rattle.std.specs.Cmp.{IsTotalOrder, IsStrictWeakOrder, then_total}
 use Rattle.std.specs.Cmp.Lexicographic.{slice_cmp, on_texts, bytes_decides}
 use Rattle.std.specs.Ordering.{nat_cmp, on, then_cmp, is_lt, ordering_then, ordering_reverse}
 use Rattle.std.specs.declared.cmp.Ordering.TheVariants.{Less, Equal, Greater}
@@ -16,11 +16,10 @@ use Rattle.std.proofs.lemmas.List.Sorted.{ranks_by}
 use Rattle.std.proofs.lemmas.List.Sums.{sum_by-cons}
 use Rattle.std.proofs.lemmas.Bool.{and_parts, and_from}
 use Rattle.std.proofs.lemmas.Bool.Decides.{nat_tests}
-use Rattle.sg_base.specs.Lists.{In, Pairs}
+use Rattle.sg_base.specs.Lists.{Pairs}
 use Rattle.sg_base.specs.Ranking.{in_order}
 use Rattle.sg_base.proofs.ListLemmas.{each_in, all_of}
-use Rattle.sg_base.proofs.Sorting.{rises-in_order, NoneBelow, Rises, total_of, total_of-in_order}
-use Rattle.sg_paths.specs.Operations.{PlainNumbered}
+use Rattle.sg_base.proofs.Sorting.{rises-in_order, Rises, total_of, total_of-in_order}
 use Rattle.sg_paths.specs.AllPaths.{Entry, FullPath, path_entries, entry_cmp, entry_cmp_total}
 use Rattle.sg_paths.specs.AllPaths.{is_alike, number_after, numbered, all_paths}
 use Rattle.sg_paths.specs.PathLaws.{comes_before, NumbersCountEarlierEntries}

@@ -1,9 +1,9 @@
 -- All paths rise: each is bytewise less than the next, whatever stands behind it.
-use Rattle.std.proofs.Common.{◌≡◌, ◌≤◌, ◌<◌, ◌+◌, ℕ, zero, suc, Bool, true, false, not, ◌&&◌, ◌||◌}
-use Rattle.std.proofs.Common.{cond, ◌⊎◌, inl, inr, Ordering, eqb, ltb}
-use Rattle.std.proofs.Common.{List, [], ◌∷◌, ◌++◌, length, map, refl, sym, ap, ◌∙◌, subst, arith}
+use Rattle.std.proofs.Common.{◌≡◌, ◌≤◌, ◌<◌, ◌+◌, ℕ, suc, Bool, true, false, not, ◌&&◌, ◌||◌}
+use Rattle.std.proofs.Common.{cond, Ordering, eqb}
+use Rattle.std.proofs.Common.{List, [], ◌∷◌, ◌++◌, length, map, refl, sym, ap, ◌∙◌, arith}
 use Rattle.std.proofs.Common.{append_assoc, Option, Some, None}
-use Rattle.std.specs.Prelude.{bytes_eq, is_none}
+use Rattle.std.specs.Prelude.{is_none}
 use Rattle.std.specs.Int.{w32, to_be_bytes}
 use Rattle.std.specs.List.{AllByRecursion, list_all, position_from}
 use Rattle.std.specs.Cmp.Lexicographic.{slice_cmp, bytes_decides}
@@ -14,16 +14,15 @@ use Rattle.std.proofs.lemmas.Cmp.{nat_list_cmp_total}
 use Rattle.std.proofs.lemmas.List.{append_cancel_right}
 use Rattle.std.proofs.lemmas.Bool.{and_from, and_parts}
 use Rattle.sg_base.specs.ReservedBytes.{is_reserved}
-use Rattle.sg_base.specs.Contexts.{is_context}
-use Rattle.sg_base.specs.Keys.{is_key, is_key_byte}
+use Rattle.sg_base.specs.Keys.{is_key_byte}
 use Rattle.sg_base.specs.Ranking.{in_order}
 use Rattle.sg_base.proofs.Sorting.{rises-in_order, NoneBelow, Rises as Sorted}
 use Rattle.sg_base.proofs.InOrderLemmas.{length-in_order}
 use Rattle.sg_paths.specs.Operations.{PlainNumbered}
-use Rattle.sg_paths.specs.AllPaths.{Entry, FullPath, path_entries, entry_cmp, entry_cmp_total}
+use Rattle.sg_paths.specs.AllPaths.{Entry, path_entries, entry_cmp, entry_cmp_total}
 use Rattle.sg_paths.specs.AllPaths.{is_alike, number_after, numbered, all_paths}
 use Rattle.sg_paths.specs.AllPaths.{head_bytes, path_bytes}
-use Rattle.sg_paths.specs.PathLaws.{IsLegal, IsAhead, RisesFrom, Rises}
+use Rattle.sg_paths.specs.PathLaws.{IsLegal, RisesFrom, Rises}
 use Rattle.sg_base.specs.ByteStrings.{is_less, lacks}
 use Rattle.sg_base.proofs.ByteStringLemmas.{slice-less}
 use Rattle.sg_paths.proofs.ByteLemmas.{front_less, ends_less, keys_less, number_less, longer_less}

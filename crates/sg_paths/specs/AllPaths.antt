@@ -1,7 +1,7 @@
 -- The paths of a list of documents, in byte order. Source: Lucene's suggest.document, where a
 -- context
 -- leads the key; the bytes and the numbers among equals are this project's own.
-use Rattle.std.specs.Prelude.{ℕ, ◌+◌, Bool, false, ◌&&◌, cond, bytes_eq, Option, Some, None, map}
+use Rattle.std.specs.Prelude.{ℕ, ◌+◌, Bool, ◌&&◌, cond, bytes_eq, Option, Some, None, map}
 use Rattle.std.specs.Prelude.{List, [], ◌∷◌, ◌++◌}
 use Rattle.std.specs.declared.cmp.Ordering.{Ordering}
 use Rattle.std.specs.Cmp.{IsTotalOrder, then_total, back_total, on_total, nat_cmp_total}

@@ -1,9 +1,7 @@
 -- The paths of one document as the code collects them. No public clause cites this module.
-use Rattle.std.specs.Prelude.{ℕ, Bool, not, ◌&&◌, ◌||◌, nat_eq, nat_lt, bytes_eq, filter, map, List}
-use Rattle.std.specs.Prelude.{[], ◌∷◌}
+use Rattle.std.specs.Prelude.{ℕ, Bool, not, ◌&&◌, ◌||◌, nat_eq, nat_lt, bytes_eq, filter, List}
 use Rattle.std.specs.List.{list_any}
 use Rattle.sg_paths.specs.Documents.{PlainSuggestion}
-use Rattle.sg_paths.specs.Paths.{PlainPath, contexts_of}
 use Rattle.sg_paths.specs.AllPaths.{Entry, entry_of}
 
 -- what a suggestion has in a context

@@ -1,7 +1,8 @@
 -- What is so of all paths of documents. Source: this project's own.
 use Rattle.std.specs.Prelude.{ℕ, ◌≡◌, ◌≤◌, ◌++◌, Bool, true, ◌&&◌, ◌||◌, nat_lt, nat_eq}
-use Rattle.std.specs.Prelude.{count_by, List, [], ◌∷◌}
+use Rattle.std.specs.Prelude.{count_by, List, [], ◌∷◌, map}
 use Rattle.std.specs.List.{All}
+use Rattle.std.specs.List.Sorted.{IsPermutation}
 use Rattle.std.specs.Cmp.Lexicographic.{slice_cmp}
 use Rattle.std.specs.Ordering.{nat_cmp, is_lt}
 use Rattle.sg_base.specs.declared.limits.TheConstants.{MOST_WEIGHT}
@@ -40,3 +41,8 @@ comes_before e f =
 abbrev pub NumbersCountEarlierEntries : Type 0
 NumbersCountEarlierEntries = (docs : List PlainNumbered)
     → All (λ p. p.n ≡ count_by (λ e. comes_before e p.entry) (path_entries 0 docs)) (all_paths docs)
+
+-- they are the paths of the documents, each once, whatever their order
+abbrev pub AllPathsAreThoseOfDocuments : Type 0
+AllPathsAreThoseOfDocuments = (docs : List PlainNumbered)
+    → IsPermutation (path_entries 0 docs) (map (λ p. p.entry) (all_paths docs))

@@ -30,6 +30,7 @@ pub use live::{
 pub use op::{Batch, Numbered, Op};
 pub use path::Path;
 pub use path_laws::{
-    each_entry_has_a_path, each_pair_has_one_path, numbers_count_the_entries_before,
+    all_paths_are_those_of_documents, each_entry_has_a_path, each_pair_has_one_path,
+    numbers_count_the_entries_before,
 };
 pub use suggestion::{Suggestion, SuggestionError};

@@ -1,6 +1,6 @@
 //! What holds of the paths of every document.
 ghost use Rattle.sg_paths.specs.Paths.{EachPairHasOnePath, EachEntryHasAPath};
-ghost use Rattle.sg_paths.specs.PathLaws.{NumbersCountEarlierEntries};
+ghost use Rattle.sg_paths.specs.PathLaws.{NumbersCountEarlierEntries, AllPathsAreThoseOfDocuments};
 
 /// No two paths of a document have one context and key.
 pub fn each_pair_has_one_path()
@@ -17,4 +17,9 @@ pub fn each_entry_has_a_path()
 /// before it.
 pub fn numbers_count_the_entries_before()
     ensures { NumbersCountEarlierEntries }
+{}
+
+/// All paths of documents are the paths of each of them, each once.
+pub fn all_paths_are_those_of_documents()
+    ensures { AllPathsAreThoseOfDocuments }
 {}

@@ -1,7 +1,7 @@
 -- What is kept of a document's entries are its paths.
-use Rattle.std.proofs.Common.{◌≡◌, ◌++◌, ℕ, List, map, sym, ap, ◌∙◌}
+use Rattle.std.proofs.Common.{◌≡◌, ◌++◌, List, map, ap, ◌∙◌}
 use Rattle.sg_paths.specs.Documents.{PlainDocument, PlainSuggestion}
-use Rattle.sg_paths.specs.Paths.{paths, entries_from as plain_entries}
+use Rattle.sg_paths.specs.Paths.{entries_from as plain_entries}
 use Rattle.sg_paths.specs.AllPaths.{Entry, entry_of}
 use Rattle.sg_paths.specs.Collected.{kept}
 use Rattle.sg_paths.proofs.CollectLemmas.{kept-entries}

@@ -1,11 +1,10 @@
 -- The different contexts.
-use Rattle.std.proofs.Common.{◌≡◌, ◌≤◌, ◌<◌, ◌+◌, ◌++◌, ◌∷◌, [], ℕ, List, length, take, drop}
-use Rattle.std.proofs.Common.{get_or, map, refl, sym, ap, ◌∙◌, arith, Bool, true, false}
-use Rattle.std.proofs.Common.{append_assoc}
+use Rattle.std.proofs.Common.{◌++◌, []}
+use Rattle.std.proofs.Common.{map, ap, arith}
 use Rattle.std.proofs.lemmas.List.{get_or_read}
 use Rattle.sg_paths.specs.Paths.{distinct_texts}
 use Rattle.sg_paths.specs.Collected.{in_context}
-use Rattle.sg_paths.proofs.CollectLemmas.{new_texts, new_none, more_texts_at}
+use Rattle.sg_paths.proofs.CollectLemmas.{new_none, more_texts_at}
 use Rattle.sg_paths.proofs.collecting.add_suggestion.Goals as goal
 
 pub loop-i-init : goal.loop-i-init

@@ -1,5 +1,5 @@
 -- What is in, continued by what stands in none of the contexts before, is the whole.
-use Rattle.std.proofs.Common.{◌≡◌, ◌++◌, ℕ, List, take, drop, map}
+use Rattle.std.proofs.Common.{◌≡◌, ◌++◌, take, drop, map}
 use Rattle.sg_paths.specs.Paths.{distinct_texts}
 use Rattle.sg_paths.specs.Collected.{in_context}
 use Rattle.sg_paths.proofs.CollectLemmas.{new_texts}

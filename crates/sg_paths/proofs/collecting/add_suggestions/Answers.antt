@@ -1,7 +1,7 @@
 -- One suggestion more.
-use Rattle.std.proofs.Common.{◌≡◌, ◌≤◌, ◌<◌, ◌+◌, ◌++◌, ◌∷◌, [], ℕ, List, length, take, drop}
-use Rattle.std.proofs.Common.{get_or, map, refl, sym, ap, ◌∙◌, arith, subst, append_assoc}
-use Rattle.std.proofs.lemmas.List.{get_or_read, drop_more, map-append}
+use Rattle.std.proofs.Common.{◌≡◌, ◌<◌, ◌+◌, ◌++◌, ◌∷◌, [], ℕ, List, length, drop}
+use Rattle.std.proofs.Common.{get_or, map, refl, sym, ap, ◌∙◌, arith, append_assoc}
+use Rattle.std.proofs.lemmas.List.{drop_more, map-append}
 use Rattle.sg_paths.specs.Documents.{PlainSuggestion}
 use Rattle.sg_paths.specs.Paths.{PlainPath, contexts_of, entries_from as plain_entries}
 use Rattle.sg_paths.specs.AllPaths.{Entry, entry_of}

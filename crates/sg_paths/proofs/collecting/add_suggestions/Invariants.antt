@@ -1,5 +1,5 @@
 -- What is in, continued by the rest, is the whole.
-use Rattle.std.proofs.Common.{◌≡◌, ◌++◌, ℕ, List, drop, map}
+use Rattle.std.proofs.Common.{◌≡◌, ◌++◌, drop, map}
 use Rattle.sg_paths.specs.Paths.{entries_from as plain_entries}
 use Rattle.sg_paths.specs.AllPaths.{entry_of}
 use Rattle.sg_paths.proofs.collecting.add_suggestions.Given as goal

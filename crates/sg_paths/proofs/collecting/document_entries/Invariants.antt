@@ -1,5 +1,5 @@
 -- What is in, continued by the rest, is the whole.
-use Rattle.std.proofs.Common.{◌≡◌, ◌++◌, ℕ, List, drop}
+use Rattle.std.proofs.Common.{◌≡◌, ◌++◌, drop}
 use Rattle.sg_paths.specs.AllPaths.{path_entries}
 use Rattle.sg_paths.proofs.collecting.document_entries.Given as goal
 

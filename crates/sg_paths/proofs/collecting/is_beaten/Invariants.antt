@@ -1,5 +1,5 @@
 -- None so far.
-use Rattle.std.proofs.Common.{◌≡◌, ℕ, List, drop}
+use Rattle.std.proofs.Common.{◌≡◌, drop}
 use Rattle.std.specs.List.{list_any}
 use Rattle.sg_paths.specs.Collected.{is_kept_over}
 use Rattle.sg_paths.proofs.collecting.is_beaten.Given as goal

@@ -4,7 +4,7 @@ use Rattle.std.proofs.Common.{refl, sym, ap, ◌∙◌, arith, Ordering}
 use Rattle.std.proofs.lemmas.List.{drop_more, drop_all}
 use Rattle.std.specs.Cmp.Lexicographic.{slice_cmp}
 use Rattle.std.specs.Ordering.{nat_cmp, ordering_then}
-use Rattle.std.specs.declared.cmp.Ordering.TheVariants.{Less, Equal, Greater}
+use Rattle.std.specs.declared.cmp.Ordering.TheVariants.{Less, Greater}
 use Rattle.sg_paths.proofs.entry.compare_contexts.Goals as goal
 use Rattle.sg_paths.proofs.entry.compare_contexts.Goals.{then-loop-i-test+else-i-second}
 use Rattle.sg_paths.proofs.entry.compare_contexts.Goals.{else-loop-i-test}

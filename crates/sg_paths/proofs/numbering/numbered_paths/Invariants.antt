@@ -1,5 +1,5 @@
 -- What is out, continued by the rest, is the whole.
-use Rattle.std.proofs.Common.{◌≡◌, ◌≤◌, ◌++◌, ℕ, List, None, drop}
+use Rattle.std.proofs.Common.{◌≡◌, ◌≤◌, ◌++◌, None, drop}
 use Rattle.std.specs.Prelude.{option_map}
 use Rattle.std.specs.List.{AllByRecursion}
 use Rattle.sg_paths.specs.PathLaws.{IsLegal}
