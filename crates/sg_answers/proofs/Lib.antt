@@ -2,3 +2,9 @@ pub mod FirstLemmas
 pub mod ScoreLemmas
 pub mod EntryLemmas
 pub mod NumberLemmas
+pub mod TakingLemmas
+pub mod FirstRowsLemmas
+pub mod CutLemmas
+pub mod KeptLemmas
+pub mod ClosingLemmas
+pub mod CollectorLemmas
