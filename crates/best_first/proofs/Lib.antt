@@ -1,0 +1,4 @@
+pub mod MemberLemmas
+pub mod AnswerLemmas
+pub mod SumLemmas
+pub mod CountLemmas
