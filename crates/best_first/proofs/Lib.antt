@@ -1,6 +1,7 @@
 pub mod EntryLemmas
 pub mod RowLemmas
 pub mod ListLemmas
+pub mod MemberLemmas
 pub mod CoverLemmas
 pub mod ProgressLemmas
 pub mod ChooseLemmas
@@ -16,3 +17,6 @@ pub mod PrefixLemmas
 pub mod OrderLemmas
 pub mod ShortLemmas
 pub mod ExactLemmas
+pub mod SumLemmas
+pub mod CountLemmas
+pub mod AnswerLemmas

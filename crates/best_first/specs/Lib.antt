@@ -8,3 +8,4 @@ pub mod Segments
 pub mod Ends
 pub mod Exact
 pub mod Spots
+pub mod PathMatches
