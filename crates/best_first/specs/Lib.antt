@@ -7,5 +7,8 @@ pub mod Steps
 pub mod Segments
 pub mod Ends
 pub mod Exact
-pub mod Spots
 pub mod PathMatches
+pub mod Parts
+pub mod Met
+pub mod Roots
+pub mod Searches
