@@ -20,3 +20,6 @@ pub mod ExactLemmas
 pub mod SumLemmas
 pub mod CountLemmas
 pub mod AnswerLemmas
+pub mod Overs
+pub mod ChildLemmas
+pub mod FamilyLemmas
