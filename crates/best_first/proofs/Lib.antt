@@ -23,3 +23,4 @@ pub mod AnswerLemmas
 pub mod Overs
 pub mod ChildLemmas
 pub mod FamilyLemmas
+pub mod FollowLemmas

@@ -12,3 +12,4 @@ pub mod Parts
 pub mod Met
 pub mod Roots
 pub mod Searches
+pub mod Followed
