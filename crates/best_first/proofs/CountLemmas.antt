@@ -126,7 +126,7 @@ module _ (s : Setting) (f : Rank → ℕ) where
       ≡ total f (matching s.query (cond b (d ∷ ds) ds))
   document_by k w d es ds true t seq h =
       let one : total (share w) (map (entry_of k) (paths d.document))
-          ≡ total f (matching_ranks s.query d) =
+      ≡ total f (matching_ranks s.query d) =
       document_shares k w (paths d.document) t
       ∙ ap (λ n. total f (filter_map (path_rank s.query n) (paths d.document))) seq in
       let both = total-append f (matching_ranks s.query d) (matching s.query ds) in

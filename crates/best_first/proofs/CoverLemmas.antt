@@ -43,7 +43,7 @@ pub covers-under : (m : Match) (a b : Queued) → a.entry.start ≡ b.entry.star
     → begins a.bytes b.bytes ≡ true → covers m b ≡ true → covers m a ≡ true
 covers-under m a b s g h =
     covers-of m a (s ∙ covers-start m b h)
-        (begins_trans a.bytes b.bytes m.bytes g (covers-bytes m b h))
+    (begins_trans a.bytes b.bytes m.bytes g (covers-bytes m b h))
 
 no_true : (b : Bool) → (b ≡ true → ⊥) → b ≡ false
 no_true true f = absurd (f refl)
@@ -55,7 +55,7 @@ pub not_begun : (all : List Match) (a b : Queued) → Best all b
     → a.entry.start ≡ b.entry.start → begins a.bytes b.bytes ≡ false
 not_begun all a b best apart s =
     no_true (begins a.bytes b.bytes)
-        (λ g. apart best.met.0 best.met.1 (covers-under best.met.0 a b s g best.met.2) best.met.2)
+    (λ g. apart best.met.0 best.met.1 (covers-under best.met.0 a b s g best.met.2) best.met.2)
 
 decided : (b : Bool) → (b ≡ false → ⊥) → b ≡ true
 decided true f = refl
@@ -69,7 +69,7 @@ strictly all x y best apart h =
     decided (entry_lt x y) (λ k.
     let same = tied_entries x y k h in
     let g : begins x.bytes y.bytes ≡ true =
-        subst (λ z. begins x.bytes z ≡ true) (append-nil x.bytes ∙ same.1)
-        (begins-append x.bytes []) in
+    subst (λ z. begins x.bytes z ≡ true) (append-nil x.bytes ∙ same.1)
+    (begins-append x.bytes []) in
     let none : begins x.bytes y.bytes ≡ false = not_begun all x y best apart same.0 in
     let no : true ≡ false = sym g ∙ none in cc)

@@ -42,16 +42,16 @@ module _ (s : Setting) (nodes : List (List Edge)) (ds : List PlainNumbered) (r :
   pub one_arc : (d1 d2 d3 : PlainDesk) (e' : Entry) (node : List Edge) (at' len : ℕ) (edge : Edge)
       → (e.node.0 ≡ 0 → ⊥) → node ≡ arcs_of nodes e.node.0
       → ((us : List Edge) × (vs : List Edge) × (a : Edge) × IsFree node us vs a
-          × (length us ≡ at'))
+      × (length us ≡ at'))
       → d1 ≡ put_all d (map (child (queued e (path_of d))) (take (at' - 0) (drop 0 node)))
       → len ≡ length node
       → d2 ≡ put_all d1 (map (child (queued e (path_of d1)))
-          (take (len - (at' + 1)) (drop (at' + 1) node)))
+      (take (len - (at' + 1)) (drop (at' + 1) node)))
       → ((x : Edge) → edge ≡ slice_index_or node at' x) → d3 ≡ stepped d2 edge.label
       → e' ≡ child_entry e edge
       → FollowsPath s nodes ds r d3 e' × (length (path_of d3) ≡ length (path_of d) + 1)
   one_arc d1 d2 d3 e' node at' len edge inner is free_at q1 l q2 qe q3 qc =
       let done = follows-calls (all_matches s (all_paths ds)) (IsMet s nodes) r nodes
-          (match_at s (all_paths ds)) f.searches.knows d d1 d2 d3 e e' node at' len edge f.follows
-          inner is free_at q1 l q2 qe q3 qc in
+      (match_at s (all_paths ds)) f.searches.knows d d1 d2 d3 e e' node at' len edge f.follows
+      inner is free_at q1 l q2 qe q3 qc in
       (record { searches = f.searches; follows = done.0 }, done.1)

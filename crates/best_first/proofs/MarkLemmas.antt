@@ -37,7 +37,7 @@ mark-under all starts l m e i best c =
     let under = begun_rest e.bytes m.bytes (covers-bytes m e c) in
     let grows : is_le (slice_cmp nat_cmp (key_part e.bytes) (key_part m.bytes)) ≡ true =
     subst (λ z. is_le (slice_cmp nat_cmp (key_part e.bytes) (key_part z)) ≡ true) (sym under.1)
-        (key_grows e.bytes under.0) in
+    (key_grows e.bytes under.0) in
     let key : is_le (slice_cmp nat_cmp (key_part e.bytes) m.rank.key) ≡ true =
     subst (λ z. is_le (slice_cmp nat_cmp (key_part e.bytes) z) ≡ true) (sym (l.keyed m i)) grows in
     mark_grows e.entry.score m.rank.score (key_part e.bytes) m.rank.key (best.bound m i c) key

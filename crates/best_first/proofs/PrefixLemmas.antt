@@ -46,7 +46,7 @@ around y (x ∷ xs) (inr i) = let r =
 in_around : (x y : Match) (us vs : List Match) → In x (us ++ y ∷ vs) → (x ≡ y) ⊎ In x (us ++ vs)
 in_around x y us vs i =
     elim (in-append x us (y ∷ vs) i) as (λ _. (x ≡ y) ⊎ In x (us ++ vs)) [
-      inl j ↦ inr (in-append-left x us vs j)
+      | inl j ↦ inr (in-append-left x us vs j)
       | inr j ↦ elim j as (λ _. (x ≡ y) ⊎ In x (us ++ vs))
           [ inl e ↦ inl e | inr l ↦ inr (in-append-right x us vs l) ]
     ]
@@ -54,7 +54,7 @@ in_around x y us vs i =
 around_in : (x y : Match) (us vs : List Match) → In x (us ++ vs) → In x (us ++ y ∷ vs)
 around_in x y us vs i =
     elim (in-append x us vs i) as (λ _. In x (us ++ y ∷ vs))
-        [ inl j ↦ in-append-left x us (y ∷ vs) j | inr j ↦ in-append-right x us (y ∷ vs) (inr j) ]
+    [ inl j ↦ in-append-left x us (y ∷ vs) j | inr j ↦ in-append-right x us (y ∷ vs) (inr j) ]
 
 distinct_rest : (y : Match) (us vs : List Match) → Distinct (us ++ y ∷ vs) → Distinct (us ++ vs)
 distinct_rest y [] vs d = d.1
@@ -78,9 +78,9 @@ first_is_in : (y : Match) (ys : List Match) (r : Match) (rs : List Match) → Ri
     → ((n : Match) → In n (r ∷ rs) → In n (y ∷ ys)) → IsFront (y ∷ ys) (r ∷ rs) → In y (r ∷ rs)
 first_is_in y ys r rs up a c =
     elim (c y (inl refl)) as (λ _. In y (r ∷ rs)) [
-      inl i ↦ i
+      | inl i ↦ i
       | inr f ↦ absurd (elim (a r (inl refl)) as (λ _. ⊥) [
-        inl e ↦ never_before_itself y (subst (λ z. match_lt z y ≡ true) e (f r (inl refl)))
+        | inl e ↦ never_before_itself y (subst (λ z. match_lt z y ≡ true) e (f r (inl refl)))
         | inr j ↦ never_both y r (up.0 r j) (f r (inl refl))
       ])
     ]
@@ -98,8 +98,11 @@ step : (y : Match) (ys R R1 : List Match) → length R ≡ suc (length R1) → I
     → Same (y ∷ ys) R
 step y ys R R1 l own parts back more x =
     subst (λ n. (In x (take n (y ∷ ys)) → In x R) × (In x R → In x (take n (y ∷ ys)))) (sym l) (
-      λ i. elim i as (λ _. In x R) [ inl e ↦ subst (λ z. In z R) (sym e) own | inr j ↦ back x
-              ((more x).0 j) ],
+      λ i. elim i as (λ _. In x R) [
+        | inl e ↦ subst (λ z. In z R) (sym e) own
+        | inr j ↦ back x
+            ((more x).0 j)
+      ],
       λ i. elim (parts x i) as (λ _. (x ≡ y) ⊎ In x (take (length R1) ys))
           [ inl e ↦ inl e | inr j ↦ inr ((more x).1 j) ],
     )
@@ -114,21 +117,21 @@ prefix_is (y ∷ ys) (r ∷ rs) up d a c x =
     let w = around y (r ∷ rs) own in
     let d' : Distinct (w.us ++ y ∷ w.vs) = subst Distinct w.is d in
     let parts : (x : Match) → In x (r ∷ rs) → (x ≡ y) ⊎ In x (w.us ++ w.vs) =
-        λ x i. in_around x y w.us w.vs (subst (λ z. In x z) w.is i) in
+    λ x i. in_around x y w.us w.vs (subst (λ z. In x z) w.is i) in
     let back : (x : Match) → In x (w.us ++ w.vs) → In x (r ∷ rs) =
-        λ x i. subst (λ z. In x z) (sym w.is) (around_in x y w.us w.vs i) in
+    λ x i. subst (λ z. In x z) (sym w.is) (around_in x y w.us w.vs i) in
     step y ys (r ∷ rs) (w.us ++ w.vs) (ap length w.is ∙ length_around y w.us w.vs) own parts back
     (prefix_is ys (w.us ++ w.vs) up.1 (distinct_rest y w.us w.vs d')
-      (λ n i. tail_in n y ys (not_again n y w.us w.vs d' i) (a n (back n i)))
-      (λ m i. elim (c m (inr i)) as (λ _. In m (w.us ++ w.vs)
-                  ⊎ ((n : Match) → In n (w.us ++ w.vs) → match_lt n m ≡ true)) [
-        inl j ↦ elim (parts m j) as (λ _. In m (w.us ++ w.vs)
-                ⊎ ((n : Match) → In n (w.us ++ w.vs) → match_lt n m ≡ true)) [
-          inl e ↦ absurd (never_before_itself y (subst (λ z. match_lt y z ≡ true) e (up.0 m i)))
-          | inr k ↦ inl k
-        ]
-        | inr f ↦ inr (λ n k. f n (back n k))
-      ])) x
+    (λ n i. tail_in n y ys (not_again n y w.us w.vs d' i) (a n (back n i)))
+    (λ m i. elim (c m (inr i)) as (λ _. In m (w.us ++ w.vs)
+    ⊎ ((n : Match) → In n (w.us ++ w.vs) → match_lt n m ≡ true)) [
+      | inl j ↦ elim (parts m j) as (λ _. In m (w.us ++ w.vs)
+          ⊎ ((n : Match) → In n (w.us ++ w.vs) → match_lt n m ≡ true)) [
+            | inl e ↦ absurd (never_before_itself y (subst (λ z. match_lt y z ≡ true) e (up.0 m i)))
+            | inr k ↦ inl k
+          ]
+      | inr f ↦ inr (λ n k. f n (back n k))
+    ])) x
 
 -- what is behind the first n
 pub in-drop_or_take : (x : Match) (n : ℕ) (xs : List Match) → In x xs

@@ -39,7 +39,7 @@ pub ranked-within : (xs ys : List Rank) → ((r : Rank) → In r ys → In r xs)
     → ranked (xs ++ ys) ≡ ranked xs
 ranked-within xs ys f =
     ranked-same (xs ++ ys) xs (λ r j. elim (in-append r xs ys j) as (λ _. In r xs)
-            [ inl k ↦ k | inr k ↦ f r k ]) (λ r j. in-append-left r xs ys j)
+    [ inl k ↦ k | inr k ↦ f r k ]) (λ r j. in-append-left r xs ys j)
 
 long_enough : {X : Type 0} (k : ℕ) (xs ys : List X) → take k xs ≡ take k ys → k ≤ length ys
     → k ≤ length xs
@@ -77,12 +77,12 @@ first-late k s [] h f = refl
 first-late k s (u ∷ us) h f =
     let more = first-late k s us h (λ v i. f v (inr i)) in
     elim (f u (inl refl)) as (λ _. take k (ranked (u ∷ (us ++ s))) ≡ take k (ranked s)) [
-      inl i ↦ ap (take k) (known u (us ++ s) (in-append-right u us s i)) ∙ more
+      | inl i ↦ ap (take k) (known u (us ++ s) (in-append-right u us s i)) ∙ more
       | inr late ↦
-        put_row-late k u (ranked (us ++ s)) (long_enough k (ranked (us ++ s)) (ranked s) more h)
-        (subst (AllByRecursion (λ x. rank_lt x u ≡ true)) (sym more)
-                (all_of (λ x. rank_lt x u ≡ true) (take k (ranked s)) late))
-        ∙ more
+          put_row-late k u (ranked (us ++ s)) (long_enough k (ranked (us ++ s)) (ranked s) more h)
+          (subst (AllByRecursion (λ x. rank_lt x u ≡ true)) (sym more)
+          (all_of (λ x. rank_lt x u ≡ true) (take k (ranked s)) late))
+          ∙ more
     ]
 
 -- what precedes
@@ -116,17 +116,19 @@ put_fails_at : (pre : Rank → Bool) → GoesDown pre → (a b : Bool) (r x : Ra
     → rank_lt x r ≡ a → pre r ≡ false → Ascending (x ∷ xs)
     → filter pre (put_row r xs) ≡ filter pre xs
     → filter pre (cond a (cond b (x ∷ xs) (x ∷ put_row r xs)) (r ∷ without r.seq (x ∷ xs)))
-        ≡ filter pre (x ∷ xs)
+    ≡ filter pre (x ∷ xs)
 put_fails_at pre down true true r x xs is n up more = refl
 put_fails_at pre down true false r x xs is n up more =
     same_kept (pre x) x (filter pre (put_row r xs)) (filter pre xs) more
 put_fails_at pre down false b r x xs is n up more =
     let none : (e : Rank) → In e (x ∷ xs) → pre e ≡ false =
-        λ e i. fails pre down r e (behind_all r x e xs up is i) n in
+    λ e i. fails pre down r e (behind_all r x e xs up is i) n in
     filter-none pre (r ∷ without r.seq (x ∷ xs))
-        (λ e i. elim i as (λ _. pre e ≡ false)
-            [ inl k ↦ subst (λ z. pre z ≡ false) (sym k) n | inr k ↦ none e
-                (in-without e r.seq (x ∷ xs) k).0 ])
+    (λ e i. elim i as (λ _. pre e ≡ false) [
+      | inl k ↦ subst (λ z. pre z ≡ false) (sym k) n
+      | inr k ↦ none e
+          (in-without e r.seq (x ∷ xs) k).0
+    ])
     ∙ sym (filter-none pre (x ∷ xs) none)
 
 alone : (pre : Rank → Bool) (r : Rank) → pre r ≡ false → filter pre (r ∷ []) ≡ []
@@ -147,7 +149,7 @@ preceding-more pre down s [] f = refl
 preceding-more pre down s (u ∷ us) f =
     let more = preceding-more pre down s us (λ v i. f v (inr i)) in
     elim (f u (inl refl)) as (λ _. filter pre (ranked (u ∷ (us ++ s))) ≡ filter pre (ranked s)) [
-      inl i ↦ ap (filter pre) (known u (us ++ s) (in-append-right u us s i)) ∙ more
+      | inl i ↦ ap (filter pre) (known u (us ++ s) (in-append-right u us s i)) ∙ more
       | inr n ↦ put_fails pre down u (ranked (us ++ s)) n (is_ranking-ranked (us ++ s)).ascending
           ∙ more
     ]
@@ -168,13 +170,13 @@ filter-take pre down (suc k) (x ∷ xs) up (inr h) =
     (filter-take pre down k xs up.1 (inr (omega (arith, h))))
 filter-take pre down (suc k) (x ∷ xs) up (inl h) =
     elim h.1 as (λ _. filter pre (take (suc k) (x ∷ xs)) ≡ filter pre (x ∷ xs)) [
-      inl i ↦
-        let n : pre x ≡ false = subst (λ z. pre z ≡ false) i h.2 in
-        let none : (e : Rank) → In e xs → pre e ≡ false =
-            λ e j. fails pre down x e (weaken rank_lt ranks_ordered x e (up.0 e j)) n in
-        same_kept (pre x) x (filter pre (take k xs)) (filter pre xs)
-            (filter-none pre (take k xs) (λ e j. none e (in-take e k xs j))
-                ∙ sym (filter-none pre xs none))
+      | inl i ↦
+          let n : pre x ≡ false = subst (λ z. pre z ≡ false) i h.2 in
+          let none : (e : Rank) → In e xs → pre e ≡ false =
+          λ e j. fails pre down x e (weaken rank_lt ranks_ordered x e (up.0 e j)) n in
+          same_kept (pre x) x (filter pre (take k xs)) (filter pre xs)
+          (filter-none pre (take k xs) (λ e j. none e (in-take e k xs j))
+          ∙ sym (filter-none pre xs none))
       | inr i ↦ same_kept (pre x) x (filter pre (take k xs)) (filter pre xs)
           (filter-take pre down k xs up.1 (inl (h.0, i, h.2)))
     ]
@@ -220,7 +222,7 @@ one_less n (x ∷ xs) o = one_less_at (nat_eq x.seq n) x n xs refl o.0 (one_less
 no_fewer_at : (a b : Bool) (r x : Rank) (xs : List Rank) → Once (x ∷ xs)
     → length xs ≤ length (put_row r xs)
     → length (x ∷ xs) ≤ length (cond a (cond b (x ∷ xs) (x ∷ put_row r xs))
-            (r ∷ without r.seq (x ∷ xs)))
+    (r ∷ without r.seq (x ∷ xs)))
 no_fewer_at true true r x xs o h = omega arith
 no_fewer_at true false r x xs o h = omega (arith, h)
 no_fewer_at false b r x xs o h = let k = one_less r.seq (x ∷ xs) o in omega (arith, k)

@@ -12,4 +12,5 @@ pub mod Parts
 pub mod Met
 pub mod Roots
 pub mod Searches
+pub mod Hits
 pub mod Followed

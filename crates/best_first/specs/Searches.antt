@@ -20,8 +20,8 @@ pub record Searches (s : Setting) (nodes : List (List Edge)) (ds : List PlainNum
       → p.entry.ordinal < length (all_paths ds)
   pub suggestion : (i : ℕ) (none : FullPath) → i < length (all_paths ds)
       → HasSuggestion ds (get_or (all_paths ds) i none).entry.doc
-          (get_or (all_paths ds) i none).entry.place
+      (get_or (all_paths ds) i none).entry.place
   pub key : (i : ℕ) (none : FullPath) → i < length (all_paths ds)
       → key_at ds (get_or (all_paths ds) i none).entry.doc
-          (get_or (all_paths ds) i none).entry.place
+      (get_or (all_paths ds) i none).entry.place
       ≡ (get_or (all_paths ds) i none).entry.key

@@ -2,6 +2,9 @@
 #![tactic(auto)]
 
 mod following;
+mod loading;
 mod parts;
+mod reaching;
+mod rows;
 
 pub use parts::SegParts;

@@ -1,5 +1,6 @@
 //! What a search sees of a segment.
 ghost use Rattle.std.specs.Prelude.{◌≡◌, ◌<◌, ◌+◌, List, [], length, get_or};
+ghost use Rattle.sg_base.specs.declared.hit.Hit.{Hit as PlainHit};
 ghost use Rattle.sg_base.specs.declared.node.Edge.{Edge as PlainEdge};
 ghost use Rattle.sg_paths.specs.AllPaths.{FullPath, all_paths};
 ghost use Rattle.sg_paths.specs.Operations.{PlainNumbered};
@@ -7,6 +8,7 @@ ghost use Rattle.seg_table.specs.Owners.{owner_of, most_paths};
 ghost use Rattle.fst_code.specs.Lists.{root_paths};
 ghost use Rattle.fst_code.specs.Views.{edges_of};
 ghost use Rattle.fst_walk.specs.Starts.{start_contexts, most_steps};
+ghost use Rattle.best_first.specs.Parts.{AreDocuments, IsMapping, HasSuggestion, key_at};
 ghost use Rattle.best_first.specs.PathMatches.{seq_at};
 
 use collector::Keys;
@@ -27,6 +29,8 @@ pub trait SegParts<L>: Keys {
 
     /// The start nodes of a query.
     fn starts<'a>(&'a self, query: &'a Query) -> Starts<'a, L>
+        ensures stands { AreDocuments (listed self.entry.now)
+            × IsMapping (nodes self.entry.now) (listed self.entry.now) }
         ensures nodes { result.nodes ≡ nodes self.entry.now }
         ensures query { result.query ≡ query.entry.now }
         ensures contexts { result.contexts
@@ -60,4 +64,8 @@ pub trait SegParts<L>: Keys {
     fn seq(&self, doc: u32) -> u64
         requires { doc < length (listed self.now) }
         ensures { result ≡ seq_at (listed self.now) doc };
+
+    /// The key of a hit is that of the suggestion at its place of the document at its place.
+    ghost keyed: { (s : Self) (h : PlainHit) → HasSuggestion (listed s) h.doc h.place
+        → Self.known s h × (Self.key_of s h ≡ key_at (listed s) h.doc h.place) };
 }

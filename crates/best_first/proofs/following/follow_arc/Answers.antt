@@ -43,18 +43,18 @@ child-requires g c =
 
 goes_on : (g : Over) (c : goal.After-child g) (s : Setting) (r : List Match)
     → FollowsPath s (g.S.SegParts.nodes c.args.parts.now) (g.S.SegParts.listed c.args.parts.now) r
-        c.args.desk.now c.args.entry
+    c.args.desk.now c.args.entry
     → FollowsPath s (g.S.SegParts.nodes c.args.parts.now) (g.S.SegParts.listed c.args.parts.now) r
-        c.step.new.self c.child.result
-        × (length (path_of c.step.new.self) ≡ length (path_of c.args.desk.now) + 1)
+    c.step.new.self c.child.result
+    × (length (path_of c.step.new.self) ≡ length (path_of c.args.desk.now) + 1)
 goes_on g c s r h =
     one_arc s (g.S.SegParts.nodes c.args.parts.now) (g.S.SegParts.listed c.args.parts.now) r
-        c.args.desk.now c.args.entry h c.put_range.new.desk c.put_range-2.new.desk
-        c.step.new.self c.child.result (edges_of c.node-node.result) c.first_free-at.result
-        c.len-count.result c.edge-edge.result c.requires.inner c.node-node.ensures.node
-        c.first_free-at.ensures.free c.in_ok-put_range.ensures.value c.len-count.ensures
-        c.in_ok-put_range-2.ensures.value c.edge-edge.ensures c.in_ok-step.ensures.ok
-        c.child.ensures
+    c.args.desk.now c.args.entry h c.put_range.new.desk c.put_range-2.new.desk
+    c.step.new.self c.child.result (edges_of c.node-node.result) c.first_free-at.result
+    c.len-count.result c.edge-edge.result c.requires.inner c.node-node.ensures.node
+    c.first_free-at.ensures.free c.in_ok-put_range.ensures.value c.len-count.ensures
+    c.in_ok-put_range-2.ensures.value c.edge-edge.ensures c.in_ok-step.ensures.ok
+    c.child.ensures
 
 pub returns-clause-follows : goal.returns-clause-follows
 returns-clause-follows g c s r h = (goes_on g c s r h).0

@@ -12,8 +12,11 @@ loop-entry-preserved g c =
     let ticks = inv.ticks in
     record {
       follows = λ s r h. c.in_ok-entry.ensures.follows s r (inv.follows s r h);
-      some = (inv.some.0, inv.some.1,
-        c.in_ok-entry.ensures.follows inv.some.0 inv.some.1 inv.some.2);
+      some = (
+        inv.some.0,
+        inv.some.1,
+        c.in_ok-entry.ensures.follows inv.some.0 inv.some.1 inv.some.2,
+      );
       longer = omega (arith, more, before);
       bounded = inr (omega (arith, more, low));
       ticks = omega (arith, more, before, ticks, tick);
