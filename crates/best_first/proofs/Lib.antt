@@ -23,3 +23,8 @@ pub mod AnswerLemmas
 pub mod Overs
 pub mod ChildLemmas
 pub mod FamilyLemmas
+pub mod Grounds
+pub mod TextLemmas
+pub mod StartLemmas
+pub mod OverLemmas
+pub mod ArcLemmas
