@@ -28,3 +28,6 @@ pub mod TextLemmas
 pub mod StartLemmas
 pub mod OverLemmas
 pub mod ArcLemmas
+pub mod PathListLemmas
+pub mod ListingLemmas
+pub mod SegmentLemmas
