@@ -31,3 +31,5 @@ pub mod ArcLemmas
 pub mod PathListLemmas
 pub mod ListingLemmas
 pub mod SegmentLemmas
+pub mod GroundLemmas
+pub mod KeyLemmas
