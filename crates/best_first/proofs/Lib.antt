@@ -33,3 +33,5 @@ pub mod ListingLemmas
 pub mod SegmentLemmas
 pub mod GroundLemmas
 pub mod KeyLemmas
+pub mod SearchesLemmas
+pub mod LoadLemmas

@@ -9,6 +9,7 @@ use Rattle.sg_base.specs.ByteStrings.{lacks, begins}
 use Rattle.sg_base.specs.declared.node.Edge.{Edge}
 use Rattle.sg_base.proofs.ListLemmas.{in-map}
 use Rattle.best_first.specs.Lists.{passing}
+use Rattle.sg_context.specs.Queries.{PlainQuery}
 use Rattle.sg_paths.specs.AllPaths.{FullPath, path_bytes}
 use Rattle.sg_paths.proofs.ByteLemmas.{lacks_parts}
 use Rattle.fst_code.specs.Tails.{Tail, tails}
@@ -69,12 +70,12 @@ in_roots s t number (c ∷ cs) (x ∷ es) a e (inr i) =
     let q = r.4 in
     (r.0, suc r.1, r.2, r.3, (let h : e.start ≡ number + suc r.1 = omega (arith, q) in h), r.5)
 
-pub roots_length : (s : Setting) (t : List (List Edge)) (number : ℕ) (cs : List (List ℕ))
-    (es : List Entry) → AreRoots s.query t number cs es → length es ≡ length cs
-roots_length s t number [] [] a = refl
-roots_length s t number [] (x ∷ es) a = elim a [ ]
-roots_length s t number (c ∷ cs) [] a = elim a [ ]
-roots_length s t number (c ∷ cs) (x ∷ es) a = ap suc (roots_length s t (number + 1) cs es a.1)
+pub roots_length : (q : PlainQuery) (t : List (List Edge)) (number : ℕ) (cs : List (List ℕ))
+    (es : List Entry) → AreRoots q t number cs es → length es ≡ length cs
+roots_length q t number [] [] a = refl
+roots_length q t number [] (x ∷ es) a = elim a [ ]
+roots_length q t number (c ∷ cs) [] a = elim a [ ]
+roots_length q t number (c ∷ cs) (x ∷ es) a = ap suc (roots_length q t (number + 1) cs es a.1)
 
 abbrev count : Bool → ℕ
 count b = cond b 1 0
@@ -210,7 +211,7 @@ module _ (s : Setting) (t : List (List Edge)) (ps : List FullPath) (g : IsGround
       let x = match_from s t ps g m i in
       ap (λ (z : Match). z.rank.key) x.3 ∙ sym (key_is x.0.entry.key _ (g.paths.clean x.0 x.1).1)
           ∙ ap (λ (z : Match). key_part z.bytes) (sym x.3);
-    within = λ m i. subst (λ n. m.start < n) (sym (roots_length s t 0 s.starts roots are))
+    within = λ m i. subst (λ n. m.start < n) (sym (roots_length s.query t 0 s.starts roots are))
         (starts_of m i);
     ordered = ordered_at s t ps g;
   }
