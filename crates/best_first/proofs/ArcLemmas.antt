@@ -24,7 +24,8 @@ use Rattle.fst_walk.proofs.BeginLemmas.{begins-append}
 use Rattle.best_first.proofs.MemberLemmas.{in-left, in-right, map-in, in-split}
 use Rattle.best_first.specs.Matches.{Match, covers, Best, Ends}
 use Rattle.best_first.specs.Families.{IsFamily}
-use Rattle.best_first.specs.Steps.{IsWithin, HasFreeArc, IsFree, child, child_entry, arcs_of}
+use Rattle.best_first.specs.Steps.{most_bytes, most_path_bytes, IsWithin, HasFreeArc, IsFree, child}
+use Rattle.best_first.specs.Steps.{child_entry, arcs_of}
 use Rattle.best_first.proofs.Overs.{IsSpread, IsOver}
 use Rattle.best_first.proofs.CoverLemmas.{covers-of}
 use Rattle.best_first.proofs.ChildLemmas.{over-child, ends-over, best-over}
@@ -36,7 +37,8 @@ use Rattle.best_first.specs.Met.{IsAt, IsMet}
 use Rattle.fst_walk.proofs.BoolLemmas.{clash}
 use Rattle.best_first.proofs.TextLemmas.{regroup, key_begins}
 use Rattle.best_first.proofs.StartLemmas.{at_one, at_in, at_place}
-use Rattle.best_first.proofs.OverLemmas.{in-spread, free_way, arc_low, spreads, over_of, match_from}
+use Rattle.best_first.proofs.OverLemmas.{place_has, in-spread, free_way, arc_low, spreads, over_of}
+use Rattle.best_first.proofs.OverLemmas.{match_from}
 use Rattle.best_first.proofs.OverLemmas.{match_in, path_under}
 
 -- the first that costs nothing
@@ -74,6 +76,13 @@ at_ordinal (p ∷ ps) (u ∷ us) vs x e =
     let k : map tail_of ps ≡ us ++ x ∷ vs = cc in
     let r = at_ordinal ps us vs x k in
     (inr r.0, r.1)
+
+-- no path is longer than the longest
+at_most : (u : Tail) (ts : List Tail) → In u ts → length u.0 ≤ most_bytes ts
+at_most u [] i = elim i [ ]
+at_most u (t ∷ ts) (inl e) =
+    let h : length u.0 ≡ length t.0 = ap (λ (z : Tail). length z.0) e in omega (arith, h)
+at_most u (t ∷ ts) (inr i) = let h = at_most u ts i in omega (arith, h)
 
 positive : (n : ℕ) → (n ≡ 0 → ⊥) → 0 < n
 positive zero f = absurd (f refl)
@@ -133,13 +142,19 @@ module _ (s : Setting) (t : List (List Edge)) (ps : List FullPath) (g : IsGround
         ordinal = omega (arith, ordinal, few);
       }
 
-  pub short_at : (p : Queued) → IsMet s t p → length p.bytes < 324
+  -- under an entry goes on a path that is longer than its bytes
+  pub short_at : (p : Queued) → IsMet s t p → length p.bytes < most_path_bytes t
   short_at p k =
-      let h = inside p k in
-      let l = place_bytes (root_paths t) (tails t) _ _ _ _ 324 k.meets
-          (g.sound.some p.entry.node.0 h) g.sound.short in
+      let b : List ℕ = k.context ++ 29 ∷ p.bytes in
+      let v = free_way (tails t p.entry.node.0) (g.sound.free p.entry.node.0 k.is_node) in
+      let u : Tail = (b ++ v.0.0, p.entry.cost + v.0.1) in
+      let i : In u (root_paths t) =
+      place_has (root_paths t) (tails t) b p.entry.node.0 p.entry.cost p.entry.ordinal v.0 k.meets
+      v.1 in
+      let l = at_most u (root_paths t) i in
       let e = length-append k.context (29 ∷ p.bytes) in
-      omega (arith, l, e)
+      let f = length-append b v.0.0 in
+      omega (arith, l, e, f)
 
   pub free_at : (p : Queued) → IsMet s t p → (p.entry.node.0 ≡ 0 → ⊥)
       → HasFreeArc (arcs_of t p.entry.node.0)

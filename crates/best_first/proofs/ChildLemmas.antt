@@ -38,9 +38,10 @@ pub best-over : (all : List Match) (ways : ℕ → List Tail) (p : Queued) → I
 best-over all ways p o = record {
   bound = λ m i c.
     let v = o.from m i c in
-    let le : (MOST_WEIGHT - (p.entry.cost + v.0.1)) * p.entry.boost ≤ (MOST_WEIGHT - p.entry.cost) * p.entry.boost = less_costs p.entry.boost p.entry.cost (p.entry.cost + v.0.1) (omega arith) in
+    let le : score_at p (p.entry.cost + v.0.1) ≤ score_at p p.entry.cost =
+    less_costs p.entry.boost p.entry.cost (p.entry.cost + v.0.1) (omega arith) in
     subst (λ n. m.rank.score ≤ n) (sym o.score_is)
-        (subst (λ n. n ≤ (MOST_WEIGHT - p.entry.cost) * p.entry.boost) (sym v.3) le);
+        (subst (λ n. n ≤ score_at p p.entry.cost) (sym v.3) le);
   met =
     let v = o.free in
     let m = o.to v.0 v.1 in
