@@ -23,3 +23,6 @@ pub mod AnswerLemmas
 pub mod Overs
 pub mod ChildLemmas
 pub mod FamilyLemmas
+pub mod OrderedLemmas
+pub mod AskedLemmas
+pub mod PathOrderLemmas
