@@ -26,3 +26,5 @@ pub mod FamilyLemmas
 pub mod OrderedLemmas
 pub mod AskedLemmas
 pub mod PathOrderLemmas
+pub mod LiveLemmas
+pub mod ReportLemmas

@@ -1,0 +1,191 @@
+-- A search's report over its matching paths is its report over the documents.
+use Rattle.std.proofs.Common.{◌≡◌, ◌≤◌, ◌<◌, ◌+◌, ◌⊎◌, inl, inr, ℕ, zero, suc, Bool, true, false}
+use Rattle.std.proofs.Common.{not, cond, nat_eq, ◌&&◌, filter, map, List, [], ◌∷◌, ◌++◌, length, take}
+use Rattle.std.proofs.Common.{refl, sym, ap, ◌∙◌, subst, arith, Option, Some, None, Ordering}
+use Rattle.std.specs.Prelude.{nat_le, slice_get}
+use Rattle.std.specs.List.{AllByRecursion, list_any, starts_with}
+use Rattle.std.specs.Ordering.{is_lt, is_le, ordering_reverse}
+use Rattle.std.specs.declared.cmp.Ordering.TheVariants.{Less, Equal, Greater}
+use Rattle.std.proofs.lemmas.Bool.{and_from}
+use Rattle.std.proofs.lemmas.Bool.Decides.{nat_tests}
+use Rattle.std.proofs.lemmas.List.{append-nil}
+use Rattle.sg_base.specs.ByteStrings.{begins}
+use Rattle.sg_base.specs.Cuts.{PlainCut, mark_cmp, mark_cmp_total, row_mark, cut_mark, precedes}
+use Rattle.sg_base.specs.Lists.{In}
+use Rattle.sg_base.specs.Ranking.{rank_cmp, in_order}
+use Rattle.sg_base.specs.Rows.{ranked}
+use Rattle.sg_base.specs.declared.rank.Rank.{Rank}
+use Rattle.sg_context.specs.Queries.{PlainQuery}
+use Rattle.sg_paths.specs.Operations.{PlainNumbered}
+use Rattle.sg_paths.specs.AllPaths.{path_entries, all_paths}
+use Rattle.sg_paths.specs.PathLaws.{IsLegal}
+use Rattle.sg_answers.specs.Answers.{answer}
+use Rattle.sg_answers.specs.Reports.{ViewedSegment, live_in, queue_size, matching, asked_contexts}
+use Rattle.sg_answers.specs.Reports.{is_upto, count, TruncatesAt, IsTruncatedIn, path_order}
+use Rattle.sg_answers.specs.Reports.{live_among, IsSpent, IsNextOf, IsExactSearch, IsSound, IsSearch}
+use Rattle.fst_code.specs.Tails.{Tail}
+use Rattle.fst_walk.specs.Starts.{total, start_contexts}
+use Rattle.best_first.specs.Ends.{IsReport, IsCutShort}
+use Rattle.best_first.specs.Exact.{IsInOrder, IsShort, IsExact}
+use Rattle.best_first.specs.Listings.{IsListing, mark_of_match}
+use Rattle.best_first.specs.Lists.{passing}
+use Rattle.best_first.specs.Matches.{Match, ranks_of}
+use Rattle.best_first.specs.PathMatches.{live_of, path_tails, matches_of}
+use Rattle.best_first.proofs.AnswerLemmas.{ranked-answer}
+use Rattle.best_first.proofs.AskedLemmas.{few_starts}
+use Rattle.best_first.proofs.CountLemmas.{begins-starts_with, all_sums, live_sums}
+use Rattle.best_first.proofs.LiveLemmas.{Rising, live_distinct, documents_are_rows, segment, any_has}
+use Rattle.best_first.proofs.MemberLemmas.{map-in}
+use Rattle.best_first.proofs.PathOrderLemmas.{order, order_is, is_in_order}
+use Rattle.best_first.proofs.SumLemmas.{summed_members, passing-total, length-total, total-map}
+
+-- a mark isn't after another where the other isn't before it
+upto_at : (o p : Ordering) → p ≡ ordering_reverse o → is_le p ≡ not (is_lt o)
+upto_at Less p is = ap is_le is
+upto_at Equal p is = ap is_le is
+upto_at Greater p is = ap is_le is
+
+upto_is : (cut : PlainCut) (m : Match)
+    → not (is_lt (mark_cmp (cut_mark cut) (mark_of_match m))) ≡ is_upto cut m.rank
+upto_is cut m =
+    sym (upto_at (mark_cmp (cut_mark cut) (row_mark m.rank))
+    (mark_cmp (row_mark m.rank) (cut_mark cut))
+    (mark_cmp_total.antisymm (row_mark m.rank) (cut_mark cut)))
+
+equal : (m n : ℕ) → m ≡ n → nat_eq m n ≡ true
+equal m n h = grind (arith, nat_tests)
+
+passing-same : {X : Type 0} (p q : X → Bool) (xs : List X) → ((x : X) → p x ≡ q x)
+    → passing p xs ≡ passing q xs
+passing-same p q [] f = refl
+passing-same p q (x ∷ xs) f = rw (f x) (ap (λ n. cond (q x) 1 0 + n) (passing-same p q xs f))
+
+-- the item at a place of a mapped list
+pub record Stands {X Y : Type 0} (f : X → Y) (xs : List X) (n : ℕ) (y : Y) : Type 0 where
+  pub item : X
+  pub after : List X
+  pub is : xs ≡ take n xs ++ item ∷ after
+  pub value : f item ≡ y
+  pub as_many : length (take n xs) ≡ n
+
+pub stands : {X Y : Type 0} (f : X → Y) (xs : List X) (n : ℕ) (y : Y)
+    → slice_get (map f xs) n ≡ Some y → Stands f xs n y
+stands f [] n y h = absurd cc
+stands f (x ∷ xs) zero y h =
+    record { item = x; after = xs; is = refl; value = let t : f x ≡ y = cc in t; as_many = refl }
+stands f (x ∷ xs) (suc n) y h =
+    let r = stands f xs n y h in record {
+      item = r.item;
+      after = r.after;
+      is = ap (λ zs. x ∷ zs) r.is;
+      value = r.value;
+      as_many = ap suc r.as_many;
+    }
+
+take-map : {X Y : Type 0} (f : X → Y) (n : ℕ) (xs : List X)
+    → take n (map f xs) ≡ map f (take n xs)
+take-map f zero xs = refl
+take-map f (suc n) [] = refl
+take-map f (suc n) (x ∷ xs) = ap (λ zs. f x ∷ zs) (take-map f n xs)
+
+in-take : {X : Type 0} (x : X) (n : ℕ) (xs : List X) → In x (take n xs) → In x xs
+in-take x zero xs i = elim i [ ]
+in-take x (suc n) [] i = i
+in-take x (suc n) (y ∷ ys) (inl e) = inl e
+in-take x (suc n) (y ∷ ys) (inr i) = inr (in-take x n ys i)
+
+get-behind : {X Y : Type 0} (f : X → Y) (us vs : List X) (x : X) (n : ℕ) → length us ≡ n
+    → slice_get (map f (us ++ x ∷ vs)) n ≡ Some (f x)
+get-behind f [] vs x zero e = refl
+get-behind f [] vs x (suc n) e = absurd (omega (arith, e))
+get-behind f (u ∷ us) vs x zero e = absurd (omega (arith, e))
+get-behind f (u ∷ us) vs x (suc n) e = get-behind f us vs x n (omega (arith, e))
+
+take-behind : {X : Type 0} (us vs : List X) (n : ℕ) → length us ≡ n → take n (us ++ vs) ≡ us
+take-behind [] vs zero e = refl
+take-behind [] vs (suc n) e = absurd (omega (arith, e))
+take-behind (u ∷ us) vs zero e = absurd (omega (arith, e))
+take-behind (u ∷ us) vs (suc n) e = ap (λ zs. u ∷ zs) (take-behind us vs n (omega (arith, e)))
+
+module _ (query : PlainQuery) (ds : List PlainNumbered) (marks : List Bool) (generation : ℕ)
+    (starts : List (List ℕ)) (u : Rising ds)
+    (legal : AllByRecursion (λ p. IsLegal p.entry) (all_paths ds))
+    (few : length (path_entries 0 ds) ≤ 4194304)
+    (ts : List Tail) (maps : ts ≡ path_tails (all_paths ds))
+    (are_starts : starts ≡ start_contexts ts query)
+    (listing : IsListing (matches_of query ds starts marks) (length starts)) where
+  abbrev matches : List Match
+  matches = matches_of query ds starts marks
+
+  abbrev live : List PlainNumbered
+  live = live_of ds marks
+
+  abbrev s : ViewedSegment
+  s = segment query ds starts marks u generation
+
+  abbrev room : ℕ
+  room = queue_size query.k s
+
+  answer_is : ranked (ranks_of matches) ≡ answer query (live_in (s ∷ []))
+  answer_is =
+      ranked-answer query live (ranks_of matches) (live_distinct ds marks u)
+      (summed_members (ranks_of matches) (matching query live) (live_sums query ds starts marks))
+      (summed_members (matching query live) (ranks_of matches)
+      (λ f. sym (live_sums query ds starts marks f)))
+      ∙ ap (answer query) (sym (append-nil live))
+
+  counted : (p : Rank → Bool)
+      → passing (λ (m : Match). p m.rank) matches ≡ count p (matching query ds)
+  counted p =
+      passing-total (λ (m : Match). p m.rank) matches
+      ∙ all_sums query ds starts marks (λ r. cond (p r) 1 0)
+      ∙ sym (length-total p (matching query ds))
+
+  member : (m : Match) → In m matches → In m.rank (matching query ds)
+  member m i =
+      summed_members (map (λ (x : Match). x.rank) matches) (matching query ds)
+      (λ f. total-map f (λ (x : Match). x.rank) matches ∙ all_sums query ds starts marks f)
+      m.rank (map-in (λ (x : Match). x.rank) m matches i)
+
+  few_contexts : length starts ≤ length (asked_contexts query ds)
+  few_contexts =
+      subst (λ (cs : List (List ℕ)). length cs ≤ length (asked_contexts query ds)) (sym are_starts)
+      (few_starts query ds ts maps legal)
+
+  truncates : (rows : List Rank) (cut : PlainCut)
+      → IsCutShort matches query.prefix (length starts) query.k room generation rows cut
+      → TruncatesAt query ds cut
+  truncates rows cut h = record {
+    crowded =
+        let c = counted (λ r. nat_le cut.score r.score) in omega (arith, c, h.crowded, h.of_room);
+    in_query = sym (begins-starts_with query.prefix cut.key) ∙ h.in_query;
+    met = any_has (λ r. nat_eq r.score cut.score && starts_with nat_eq r.key cut.key) h.met.0.rank
+        (matching query ds) (member h.met.0 h.met.1)
+        (and_from (nat_eq h.met.0.rank.score cut.score)
+        (starts_with nat_eq h.met.0.rank.key cut.key)
+        (equal h.met.0.rank.score cut.score h.met.2)
+        (sym (begins-starts_with cut.key h.met.0.rank.key) ∙ h.met.3));
+    upto =
+        let c = counted (is_upto cut) in
+        let e = passing-same
+        (λ (m : Match). not (is_lt (mark_cmp (cut_mark cut) (mark_of_match m))))
+        (λ (m : Match). is_upto cut m.rank) matches (upto_is cut) in
+        let n = few_contexts in
+        omega (arith, c, e, h.up_to, n, h.of_room);
+  }
+
+  module _ (has_live : 0 < length live) where
+    is_sound : (rows : List Rank) (cut : Option PlainCut)
+        → IsReport matches query.prefix (length starts) query.k room generation rows cut
+        → IsSound query (s ∷ []) rows cut
+    is_sound rows None h = h ∙ ap (take query.k) answer_is
+    is_sound rows (Some cut) h = (
+      h.preceding ∙ ap (filter (precedes cut)) answer_is,
+      h.few,
+      (s, (0, omega arith, refl), record {
+        generation = h.of_segment;
+        has_live = has_live;
+        room = h.of_room;
+        point = truncates rows cut h;
+      }),
+    )
