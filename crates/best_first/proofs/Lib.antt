@@ -27,4 +27,5 @@ pub mod OrderedLemmas
 pub mod AskedLemmas
 pub mod PathOrderLemmas
 pub mod LiveLemmas
+pub mod SpentLemmas
 pub mod ReportLemmas

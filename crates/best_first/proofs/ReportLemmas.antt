@@ -36,7 +36,7 @@ use Rattle.best_first.proofs.AskedLemmas.{few_starts}
 use Rattle.best_first.proofs.CountLemmas.{begins-starts_with, all_sums, live_sums}
 use Rattle.best_first.proofs.LiveLemmas.{Rising, live_distinct, documents_are_rows, segment, any_has}
 use Rattle.best_first.proofs.MemberLemmas.{map-in}
-use Rattle.best_first.proofs.PathOrderLemmas.{order, order_is, is_in_order}
+use Rattle.best_first.proofs.SpentLemmas.{exact_by}
 use Rattle.best_first.proofs.SumLemmas.{summed_members, passing-total, length-total, total-map}
 
 -- a mark isn't after another where the other isn't before it
@@ -59,53 +59,6 @@ passing-same : {X : Type 0} (p q : X → Bool) (xs : List X) → ((x : X) → p 
     → passing p xs ≡ passing q xs
 passing-same p q [] f = refl
 passing-same p q (x ∷ xs) f = rw (f x) (ap (λ n. cond (q x) 1 0 + n) (passing-same p q xs f))
-
--- the item at a place of a mapped list
-pub record Stands {X Y : Type 0} (f : X → Y) (xs : List X) (n : ℕ) (y : Y) : Type 0 where
-  pub item : X
-  pub after : List X
-  pub is : xs ≡ take n xs ++ item ∷ after
-  pub value : f item ≡ y
-  pub as_many : length (take n xs) ≡ n
-
-pub stands : {X Y : Type 0} (f : X → Y) (xs : List X) (n : ℕ) (y : Y)
-    → slice_get (map f xs) n ≡ Some y → Stands f xs n y
-stands f [] n y h = absurd cc
-stands f (x ∷ xs) zero y h =
-    record { item = x; after = xs; is = refl; value = let t : f x ≡ y = cc in t; as_many = refl }
-stands f (x ∷ xs) (suc n) y h =
-    let r = stands f xs n y h in record {
-      item = r.item;
-      after = r.after;
-      is = ap (λ zs. x ∷ zs) r.is;
-      value = r.value;
-      as_many = ap suc r.as_many;
-    }
-
-take-map : {X Y : Type 0} (f : X → Y) (n : ℕ) (xs : List X)
-    → take n (map f xs) ≡ map f (take n xs)
-take-map f zero xs = refl
-take-map f (suc n) [] = refl
-take-map f (suc n) (x ∷ xs) = ap (λ zs. f x ∷ zs) (take-map f n xs)
-
-in-take : {X : Type 0} (x : X) (n : ℕ) (xs : List X) → In x (take n xs) → In x xs
-in-take x zero xs i = elim i [ ]
-in-take x (suc n) [] i = i
-in-take x (suc n) (y ∷ ys) (inl e) = inl e
-in-take x (suc n) (y ∷ ys) (inr i) = inr (in-take x n ys i)
-
-get-behind : {X Y : Type 0} (f : X → Y) (us vs : List X) (x : X) (n : ℕ) → length us ≡ n
-    → slice_get (map f (us ++ x ∷ vs)) n ≡ Some (f x)
-get-behind f [] vs x zero e = refl
-get-behind f [] vs x (suc n) e = absurd (omega (arith, e))
-get-behind f (u ∷ us) vs x zero e = absurd (omega (arith, e))
-get-behind f (u ∷ us) vs x (suc n) e = get-behind f us vs x n (omega (arith, e))
-
-take-behind : {X : Type 0} (us vs : List X) (n : ℕ) → length us ≡ n → take n (us ++ vs) ≡ us
-take-behind [] vs zero e = refl
-take-behind [] vs (suc n) e = absurd (omega (arith, e))
-take-behind (u ∷ us) vs zero e = absurd (omega (arith, e))
-take-behind (u ∷ us) vs (suc n) e = ap (λ zs. u ∷ zs) (take-behind us vs n (omega (arith, e)))
 
 module _ (query : PlainQuery) (ds : List PlainNumbered) (marks : List Bool) (generation : ℕ)
     (starts : List (List ℕ)) (u : Rising ds)
@@ -152,6 +105,9 @@ module _ (query : PlainQuery) (ds : List PlainNumbered) (marks : List Bool) (gen
       subst (λ (cs : List (List ℕ)). length cs ≤ length (asked_contexts query ds)) (sym are_starts)
       (few_starts query ds ts maps legal)
 
+  single : length (asked_contexts query ds) ≡ 1 → length starts ≤ 1
+  single one = let h = few_contexts in omega (arith, h, one)
+
   truncates : (rows : List Rank) (cut : PlainCut)
       → IsCutShort matches query.prefix (length starts) query.k room generation rows cut
       → TruncatesAt query ds cut
@@ -189,3 +145,15 @@ module _ (query : PlainQuery) (ds : List PlainNumbered) (marks : List Bool) (gen
         point = truncates rows cut h;
       }),
     )
+
+    -- with the exact rule it is the report of the search
+    pub is_search : (rows : List Rank) (cut : Option PlainCut)
+        → IsReport matches query.prefix (length starts) query.k room generation rows cut
+        → (length starts ≤ 1 → (order : List Match) → IsInOrder matches order
+            → IsExact order query.k room cut)
+        → IsSearch query s rows cut
+    is_search rows cut report exact = record {
+      sound = is_sound rows cut report;
+      exact = exact_by query ds starts marks generation u legal few listing cut
+          single (λ one. exact (single one));
+    }
