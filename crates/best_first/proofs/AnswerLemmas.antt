@@ -124,8 +124,7 @@ is_ranking-answer query ds d =
           (first_rank-in r (matching_ranks query e.0) e.2);
       best = λ s i.
           let e = in-flat_map (matching_ranks query) s ds i in
-          let r = first_rank-least s (matching_ranks query e.0) e.2 in
-          (
+          let r = first_rank-least s (matching_ranks query e.0) e.2 in (
             r.0,
             in_order-has rank_cmp r.0 rows (filter_map-has (document_row query) r.0 e.0 ds r.1 e.1),
             row_seq query e.0 r.0 r.1 ∙ sym (matching_ranks-seq query e.0 s e.2),

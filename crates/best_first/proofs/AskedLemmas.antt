@@ -1,5 +1,6 @@
 -- The contexts of starts and of matching paths are among those of the documents that are asked for.
-use Rattle.std.proofs.Common.{◌≡◌, ◌≤◌, ◌<◌, ◌+◌, ℕ, suc, Bool, true, false, ◌&&◌, ◌⊎◌, inl, inr, not}
+use Rattle.std.proofs.Common.{◌≡◌, ◌≤◌, ◌<◌, ◌+◌, ℕ, suc, Bool, true, false, ◌⊎◌, inl, inr}
+use Rattle.std.proofs.Common.{not}
 use Rattle.std.proofs.Common.{filter, map, List, [], ◌∷◌, ◌++◌, length, append_assoc, refl, sym, ap}
 use Rattle.std.proofs.Common.{◌∙◌, subst, arith, Option, Some, None}
 use Rattle.std.specs.Prelude.{is_some, bytes_eq, flat_map}
@@ -11,7 +12,7 @@ use Rattle.sg_base.specs.ByteStrings.{begins, is_less}
 use Rattle.sg_base.specs.Lists.{In, Pairs}
 use Rattle.sg_base.specs.Ranking.{in_order}
 use Rattle.sg_base.proofs.InOrderLemmas.{in-in_order}
-use Rattle.sg_base.proofs.ListLemmas.{in-map, in-append, in-filter, each_in}
+use Rattle.sg_base.proofs.ListLemmas.{in-map, in-append, each_in}
 use Rattle.sg_context.specs.Boosts.{boost_of}
 use Rattle.sg_context.specs.Queries.{PlainQuery}
 use Rattle.sg_paths.specs.Operations.{PlainNumbered}
@@ -58,8 +59,8 @@ doc_within k (d ∷ ds) e i =
     elim (in-append e (map (entry_of k) (paths d.document)) (path_entries (k + 1) ds) i) as
     (λ _. e.doc < k + suc (length ds)) [
       | inl j ↦
-        let r = in-map (entry_of k) e (paths d.document) j in
-        let q : e.doc ≡ k = ap (λ (z : Entry). z.doc) r.2 in omega (arith, q)
+          let r = in-map (entry_of k) e (paths d.document) j in
+          let q : e.doc ≡ k = ap (λ (z : Entry). z.doc) r.2 in omega (arith, q)
       | inr j ↦ let h = doc_within (k + 1) ds e j in omega (arith, h)
     ]
 
@@ -75,12 +76,14 @@ context_from k (d ∷ ds) e i =
     (λ _. (p : PlainPath) × In p (flat_map (λ d. paths d.document) (d ∷ ds))
     × (e.context ≡ p.context)) [
       | inl j ↦
-        let r = in-map (entry_of k) e (paths d.document) j in
-        (r.0, in-left r.0 (paths d.document) (flat_map (λ d. paths d.document) ds) r.1,
-         ap (λ (z : Entry). z.context) r.2)
+          let r = in-map (entry_of k) e (paths d.document) j in (
+            r.0,
+            in-left r.0 (paths d.document) (flat_map (λ d. paths d.document) ds) r.1,
+            ap (λ (z : Entry). z.context) r.2,
+          )
       | inr j ↦
-        let r = context_from (k + 1) ds e j in
-        (r.0, in-right r.0 (paths d.document) (flat_map (λ d. paths d.document) ds) r.1, r.2)
+          let r = context_from (k + 1) ds e j in
+          (r.0, in-right r.0 (paths d.document) (flat_map (λ d. paths d.document) ds) r.1, r.2)
     ]
 
 context_has : (ds : List PlainNumbered) (p : FullPath) → In p (all_paths ds)

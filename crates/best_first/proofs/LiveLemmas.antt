@@ -1,6 +1,6 @@
 -- How many live documents have one of some matching paths: as many as their ranking has rows.
-use Rattle.std.proofs.Common.{◌≡◌, ◌≤◌, ◌<◌, ◌+◌, ◌⊎◌, inl, inr, ℕ, zero, suc, Bool, true, false}
-use Rattle.std.proofs.Common.{cond, nat_eq, ◌||◌, filter, map, List, [], ◌∷◌, length, get_or, take}
+use Rattle.std.proofs.Common.{cond, ◌≡◌, ◌<◌, ◌+◌, inl, inr, ℕ, zero, suc, Bool, true, false}
+use Rattle.std.proofs.Common.{nat_eq, ◌||◌, filter, map, List, [], ◌∷◌, length, get_or}
 use Rattle.std.proofs.Common.{refl, sym, ap, ◌∙◌, subst, arith}
 use Rattle.std.specs.List.{list_any}
 use Rattle.std.proofs.lemmas.Bool.Decides.{nat_tests}
@@ -14,10 +14,11 @@ use Rattle.sg_context.specs.Queries.{PlainQuery}
 use Rattle.sg_paths.specs.Operations.{PlainNumbered}
 use Rattle.sg_paths.specs.AllPaths.{FullPath, all_paths}
 use Rattle.sg_answers.specs.Answers.{matching_ranks}
-use Rattle.sg_answers.specs.Reports.{matching, ViewedSegment, live_among}
+use Rattle.sg_answers.specs.Reports.{matching, ViewedSegment, viewed_segment, live_of, live_among}
 use Rattle.fst_walk.proofs.ListLemmas.{filter_keeps}
+use Rattle.best_first.specs.Lists.{passing}
 use Rattle.best_first.specs.Matches.{Match, ranks_of}
-use Rattle.best_first.specs.PathMatches.{Setting, match_of, is_match, live_of, live_at, seq_at}
+use Rattle.best_first.specs.PathMatches.{Setting, match_of, is_match, live_at, seq_at}
 use Rattle.best_first.specs.PathMatches.{no_document, setting_of, matches_of}
 use Rattle.best_first.proofs.AnswerLemmas.{matching_ranks-seq, AreDistinct}
 use Rattle.best_first.proofs.AskedLemmas.{path_entry, doc_within}
@@ -57,6 +58,20 @@ distinct_of (d ∷ ds) u = (λ y i. differ d.seq y.seq (u.0 y i), distinct_of ds
 pub live_distinct : (ds : List PlainNumbered) (marks : List Bool) → Rising ds
     → AreDistinct (live_of ds marks)
 live_distinct ds marks u = distinct_of (live_of ds marks) (live_rising ds marks u)
+
+-- how many are live, where each document is marked
+length_at : (live : Bool) (d : PlainNumbered) (ds : List PlainNumbered) (n : ℕ) → length ds ≡ n
+    → length (cond live (d ∷ ds) ds) ≡ cond live 1 0 + n
+length_at true d ds n h = omega (arith, h)
+length_at false d ds n h = omega (arith, h)
+
+pub length-live_of : (ds : List PlainNumbered) (marks : List Bool) → length marks ≡ length ds
+    → length (live_of ds marks) ≡ passing (λ live. live) marks
+length-live_of [] [] h = refl
+length-live_of [] (live ∷ marks) h = absurd (omega (arith, h))
+length-live_of (d ∷ ds) [] h = absurd (omega (arith, h))
+length-live_of (d ∷ ds) (live ∷ marks) h =
+    length_at live d (live_of ds marks) _ (length-live_of ds marks (omega (arith, h)))
 
 -- a document with the number of a live one is marked live
 place_in : (ds : List PlainNumbered) (i : ℕ) → i < length ds → In (get_or ds i no_document) ds
@@ -152,8 +167,8 @@ module _ (query : PlainQuery) (ds : List PlainNumbered) (starts : List (List ℕ
   abbrev live : List PlainNumbered
   live = live_of ds marks
 
-  abbrev pub segment : ViewedSegment
-  segment = record { generation = generation; documents = ds; live = live }
+  abbrev segment : ViewedSegment
+  segment = viewed_segment generation ds marks
 
   -- a live matching path is of a live document
   document_of : (m : Match) → In m matches → m.live ≡ true
@@ -198,20 +213,29 @@ module _ (query : PlainQuery) (ds : List PlainNumbered) (starts : List (List ℕ
         (any_has (λ r. nat_eq r.seq c.0.seq) b.0.rank (map (λ (m : Match). m.rank) ms)
         (map-in (λ (m : Match). m.rank) b.0 ms b.1) (is_equal b.0.rank.seq c.0.seq c.2))))
 
+    row_of : (m : Match) → In m ms → (d : PlainNumbered) → In d live → m.rank.seq ≡ d.seq
+        → In d.seq (map (λ (r : Rank). r.seq) (ranked (ranks_of ms)))
+    row_of m i d j seq =
+        let l = live_of_document m (inside m i) d j seq in
+        let z = ranking.best m.rank (rank_has m ms i l) in
+        subst (λ k. In k (map (λ (r : Rank). r.seq) (ranked (ranks_of ms)))) (z.2 ∙ seq)
+        (map-in (λ (r : Rank). r.seq) z.0 (ranked (ranks_of ms)) z.1)
+
+    row_by : (r : Rank) → In r (map (λ (m : Match). m.rank) ms) → (d : PlainNumbered)
+        → In d live → r.seq ≡ d.seq
+        → In d.seq (map (λ (r : Rank). r.seq) (ranked (ranks_of ms)))
+    row_by r i d j seq =
+        let m = in-map (λ (m : Match). m.rank) r ms i in
+        row_of m.0 m.1 d j (sym (ap (λ (x : Rank). x.seq) m.2) ∙ seq)
+
     document_row : (n : ℕ) → In n (map (λ (d : PlainNumbered). d.seq) among)
         → In n (map (λ (r : Rank). r.seq) (ranked (ranks_of ms)))
     document_row n i =
         let a = in-map (λ (d : PlainNumbered). d.seq) n among i in
         let b = in-filter has_row a.0 live a.1 in
         let c = any_in (λ r. nat_eq r.seq a.0.seq) (map (λ (m : Match). m.rank) ms) b.1 in
-        let m = in-map (λ (m : Match). m.rank) c.0 ms c.1 in
-        let seq : m.0.rank.seq ≡ a.0.seq =
-        ap (λ (r : Rank). r.seq) (sym m.2) ∙ equal_is c.0.seq a.0.seq c.2 in
-        let l = live_of_document m.0 (inside m.0 m.1) a.0 b.0 seq in
-        let z = ranking.best m.0.rank (rank_has m.0 ms m.1 l) in
-        let same : n ≡ z.0.seq = a.2 ∙ sym seq ∙ sym z.2 in
-        subst (λ k. In k (map (λ (r : Rank). r.seq) (ranked (ranks_of ms)))) (sym same)
-        (map-in (λ (r : Rank). r.seq) z.0 (ranked (ranks_of ms)) z.1)
+        subst (λ k. In k (map (λ (r : Rank). r.seq) (ranked (ranks_of ms)))) (sym a.2)
+        (row_by c.0 c.1 a.0 b.0 (equal_is c.0.seq a.0.seq c.2))
 
     -- as many live documents have one of the paths as rows are ranked
     pub documents_are_rows : length among ≡ length (ranked (ranks_of ms))

@@ -57,7 +57,7 @@ module _ {X : Type 0} (R : X → X → Ordering) (total : IsTotalOrder R) where
   rises_put_at true x y ys is up h = (
     λ e i. elim (in_put R e x ys i) as (λ _. is_lt (R e y) ≡ false) [
       | inl k ↦ subst (λ z. is_lt (R z y) ≡ false) (sym k)
-        (weaken (λ a b. is_lt (R a b)) strict y x is)
+          (weaken (λ a b. is_lt (R a b)) strict y x is)
       | inr k ↦ up.0 e k
     ],
     h,

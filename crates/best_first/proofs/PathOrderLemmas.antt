@@ -1,5 +1,5 @@
 -- Where one context is asked for, matching paths by score and bytes are in rank order.
-use Rattle.std.proofs.Common.{◌≡◌, ◌≤◌, ◌<◌, ◌+◌, ℕ, Bool, true, false, filter, map, length}
+use Rattle.std.proofs.Common.{◌≡◌, ◌≤◌, ℕ, Bool, true, false, filter, map, length}
 use Rattle.std.proofs.Common.{List, [], ◌∷◌, ◌++◌, inl, inr, refl, sym, ap, ◌∙◌, subst, arith}
 use Rattle.std.proofs.Common.{Ordering}
 use Rattle.std.specs.List.{AllByRecursion}
@@ -15,7 +15,7 @@ use Rattle.sg_base.specs.Lists.{In, Pairs}
 use Rattle.sg_base.specs.Ranking.{rank_cmp, rank_cmp_total, in_order}
 use Rattle.sg_base.specs.declared.rank.Rank.{Rank}
 use Rattle.sg_base.proofs.InOrderLemmas.{in-in_order, pairs-in_order}
-use Rattle.sg_base.proofs.ListLemmas.{in-map, in-filter, pairs-map, all_of}
+use Rattle.sg_base.proofs.ListLemmas.{in-filter, pairs-map, all_of}
 use Rattle.sg_base.proofs.Orders.{below_trans, at_most_itself, weaken, not_both}
 use Rattle.sg_base.proofs.RankLemmas.{rank_cmp_exact}
 use Rattle.sg_base.proofs.RankingLemmas.{rank_lt, ranks_ordered}
@@ -26,11 +26,11 @@ use Rattle.sg_paths.specs.AllPaths.{FullPath, path_entries, all_paths, path_byte
 use Rattle.sg_paths.specs.PathLaws.{IsLegal, IsAhead, RisesFrom, Rises}
 use Rattle.sg_paths.proofs.RiseLemmas.{paths_rise}
 use Rattle.sg_answers.specs.Reports.{asked_contexts, matching}
-use Rattle.fst_walk.specs.Starts.{total}
 use Rattle.best_first.specs.Exact.{match_cmp, match_cmp_total, IsInOrder}
 use Rattle.best_first.specs.Listings.{IsListing}
 use Rattle.best_first.specs.Matches.{Match}
-use Rattle.best_first.specs.PathMatches.{Setting, bytes_of, match_of, is_match, setting_of, matches_of}
+use Rattle.best_first.specs.PathMatches.{Setting, bytes_of, match_of, is_match, setting_of}
+use Rattle.best_first.specs.PathMatches.{matches_of}
 use Rattle.best_first.proofs.AskedLemmas.{regroup, match_asked, only_one}
 use Rattle.best_first.proofs.CountLemmas.{all_sums}
 use Rattle.best_first.proofs.OrderedLemmas.{rises_in_order, in_order-has, strictly, pairs-filter}

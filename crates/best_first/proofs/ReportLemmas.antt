@@ -1,18 +1,17 @@
 -- A search's report over its matching paths is its report over the documents.
-use Rattle.std.proofs.Common.{◌≡◌, ◌≤◌, ◌<◌, ◌+◌, ◌⊎◌, inl, inr, ℕ, zero, suc, Bool, true, false}
-use Rattle.std.proofs.Common.{not, cond, nat_eq, ◌&&◌, filter, map, List, [], ◌∷◌, ◌++◌, length, take}
+use Rattle.std.proofs.Common.{◌≡◌, ◌≤◌, ◌<◌, ◌+◌, ℕ, Bool, true}
+use Rattle.std.proofs.Common.{not, cond, nat_eq, ◌&&◌, filter, map, List, [], ◌∷◌, length}
+use Rattle.std.proofs.Common.{take}
 use Rattle.std.proofs.Common.{refl, sym, ap, ◌∙◌, subst, arith, Option, Some, None, Ordering}
-use Rattle.std.specs.Prelude.{nat_le, slice_get}
-use Rattle.std.specs.List.{AllByRecursion, list_any, starts_with}
+use Rattle.std.specs.Prelude.{nat_le}
+use Rattle.std.specs.List.{AllByRecursion, starts_with}
 use Rattle.std.specs.Ordering.{is_lt, is_le, ordering_reverse}
 use Rattle.std.specs.declared.cmp.Ordering.TheVariants.{Less, Equal, Greater}
 use Rattle.std.proofs.lemmas.Bool.{and_from}
 use Rattle.std.proofs.lemmas.Bool.Decides.{nat_tests}
 use Rattle.std.proofs.lemmas.List.{append-nil}
-use Rattle.sg_base.specs.ByteStrings.{begins}
 use Rattle.sg_base.specs.Cuts.{PlainCut, mark_cmp, mark_cmp_total, row_mark, cut_mark, precedes}
 use Rattle.sg_base.specs.Lists.{In}
-use Rattle.sg_base.specs.Ranking.{rank_cmp, in_order}
 use Rattle.sg_base.specs.Rows.{ranked}
 use Rattle.sg_base.specs.declared.rank.Rank.{Rank}
 use Rattle.sg_context.specs.Queries.{PlainQuery}
@@ -20,21 +19,27 @@ use Rattle.sg_paths.specs.Operations.{PlainNumbered}
 use Rattle.sg_paths.specs.AllPaths.{path_entries, all_paths}
 use Rattle.sg_paths.specs.PathLaws.{IsLegal}
 use Rattle.sg_answers.specs.Answers.{answer}
-use Rattle.sg_answers.specs.Reports.{ViewedSegment, live_in, queue_size, matching, asked_contexts}
-use Rattle.sg_answers.specs.Reports.{is_upto, count, TruncatesAt, IsTruncatedIn, path_order}
-use Rattle.sg_answers.specs.Reports.{live_among, IsSpent, IsNextOf, IsExactSearch, IsSound, IsSearch}
+use Rattle.sg_answers.specs.Reports.{ViewedSegment, viewed_segment, live_of, live_in}
+use Rattle.sg_answers.specs.Reports.{queue_size, matching, asked_contexts}
+use Rattle.sg_answers.specs.Reports.{is_upto, count, TruncatesAt}
+use Rattle.sg_answers.specs.Reports.{IsSound}
+use Rattle.sg_answers.specs.Reports.{IsSearch}
+use Rattle.sg_base.specs.declared.node.Edge.{Edge}
+use Rattle.sg_paths.proofs.RiseLemmas.{length-all_paths}
+use Rattle.fst_code.specs.Lists.{root_paths}
 use Rattle.fst_code.specs.Tails.{Tail}
-use Rattle.fst_walk.specs.Starts.{total, start_contexts}
+use Rattle.fst_walk.specs.Starts.{start_contexts}
 use Rattle.best_first.specs.Ends.{IsReport, IsCutShort}
-use Rattle.best_first.specs.Exact.{IsInOrder, IsShort, IsExact}
+use Rattle.best_first.specs.Exact.{IsInOrder, IsExact}
 use Rattle.best_first.specs.Listings.{IsListing, mark_of_match}
 use Rattle.best_first.specs.Lists.{passing}
 use Rattle.best_first.specs.Matches.{Match, ranks_of}
-use Rattle.best_first.specs.PathMatches.{live_of, path_tails, matches_of}
+use Rattle.best_first.specs.Parts.{AreDocuments, IsMapping}
+use Rattle.best_first.specs.PathMatches.{path_tails, matches_of}
 use Rattle.best_first.proofs.AnswerLemmas.{ranked-answer}
 use Rattle.best_first.proofs.AskedLemmas.{few_starts}
 use Rattle.best_first.proofs.CountLemmas.{begins-starts_with, all_sums, live_sums}
-use Rattle.best_first.proofs.LiveLemmas.{Rising, live_distinct, documents_are_rows, segment, any_has}
+use Rattle.best_first.proofs.LiveLemmas.{Rising, live_distinct, any_has}
 use Rattle.best_first.proofs.MemberLemmas.{map-in}
 use Rattle.best_first.proofs.SpentLemmas.{exact_by}
 use Rattle.best_first.proofs.SumLemmas.{summed_members, passing-total, length-total, total-map}
@@ -74,7 +79,7 @@ module _ (query : PlainQuery) (ds : List PlainNumbered) (marks : List Bool) (gen
   live = live_of ds marks
 
   abbrev s : ViewedSegment
-  s = segment query ds starts marks u generation
+  s = viewed_segment generation ds marks
 
   abbrev room : ℕ
   room = queue_size query.k s
@@ -138,22 +143,46 @@ module _ (query : PlainQuery) (ds : List PlainNumbered) (marks : List Bool) (gen
     is_sound rows (Some cut) h = (
       h.preceding ∙ ap (filter (precedes cut)) answer_is,
       h.few,
-      (s, (0, omega arith, refl), record {
-        generation = h.of_segment;
-        has_live = has_live;
-        room = h.of_room;
-        point = truncates rows cut h;
-      }),
+      (
+        s,
+        (0, omega arith, refl),
+        record {
+          generation = h.of_segment;
+          has_live = has_live;
+          room = h.of_room;
+          point = truncates rows cut h;
+        },
+      ),
     )
 
     -- with the exact rule it is the report of the search
-    pub is_search : (rows : List Rank) (cut : Option PlainCut)
+    whole : (rows : List Rank) (cut : Option PlainCut)
         → IsReport matches query.prefix (length starts) query.k room generation rows cut
         → (length starts ≤ 1 → (order : List Match) → IsInOrder matches order
-            → IsExact order query.k room cut)
+        → IsExact order query.k room cut)
         → IsSearch query s rows cut
-    is_search rows cut report exact = record {
+    whole rows cut report exact = record {
       sound = is_sound rows cut report;
       exact = exact_by query ds starts marks generation u legal few listing cut
           single (λ one. exact (single one));
     }
+
+-- from what a search relies on of its segment and knows at its end: the report of the search
+pub is_search : (query : PlainQuery) (ds : List PlainNumbered) (marks : List Bool)
+    (nodes : List (List Edge)) (generation : ℕ) → AreDocuments ds → IsMapping nodes ds
+    → IsListing (matches_of query ds (start_contexts (root_paths nodes) query) marks)
+    (length (start_contexts (root_paths nodes) query))
+    → 0 < length (live_of ds marks) → (rows : List Rank) (cut : Option PlainCut)
+    → IsReport (matches_of query ds (start_contexts (root_paths nodes) query) marks) query.prefix
+    (length (start_contexts (root_paths nodes) query)) query.k
+    (queue_size query.k (viewed_segment generation ds marks)) generation rows cut
+    → (length (start_contexts (root_paths nodes) query) ≤ 1 → (order : List Match)
+    → IsInOrder (matches_of query ds (start_contexts (root_paths nodes) query) marks) order
+    → IsExact order query.k (queue_size query.k (viewed_segment generation ds marks)) cut)
+    → IsSearch query (viewed_segment generation ds marks) rows cut
+is_search query ds marks nodes generation documents mapping listing has_live =
+    let same = length-all_paths ds in
+    let most = documents.few in
+    whole query ds marks generation (start_contexts (root_paths nodes) query) documents.rising
+    documents.legal (omega (arith, same, most)) (root_paths nodes) mapping.maps refl listing
+    has_live

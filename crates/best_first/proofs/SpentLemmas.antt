@@ -1,11 +1,10 @@
--- Where one context is asked for, the queue is spent on deleted paths exactly where the matching paths
--- by score and bytes are short of live documents.
-use Rattle.std.proofs.Common.{◌≡◌, ◌≤◌, ◌<◌, ◌+◌, ℕ, zero, suc, inl, inr, Bool, true, nat_eq}
+-- Where one context is asked for, the queue is spent on deleted paths exactly where the matching
+-- paths by score and bytes are short of live documents.
+use Rattle.std.proofs.Common.{◌≡◌, ◌≤◌, ℕ, zero, suc, inl, inr, Bool}
 use Rattle.std.proofs.Common.{map, List, [], ◌∷◌, ◌++◌, length, take, refl, sym, ap, ◌∙◌, subst}
 use Rattle.std.proofs.Common.{arith, Option, Some, None}
 use Rattle.std.specs.Prelude.{slice_get}
-use Rattle.std.specs.List.{AllByRecursion, starts_with}
-use Rattle.sg_base.specs.ByteStrings.{begins}
+use Rattle.std.specs.List.{AllByRecursion}
 use Rattle.sg_base.specs.Cuts.{PlainCut}
 use Rattle.sg_base.specs.Lists.{In}
 use Rattle.sg_base.specs.Rows.{ranked}
@@ -15,14 +14,15 @@ use Rattle.sg_context.specs.Queries.{PlainQuery}
 use Rattle.sg_paths.specs.Operations.{PlainNumbered}
 use Rattle.sg_paths.specs.AllPaths.{path_entries, all_paths}
 use Rattle.sg_paths.specs.PathLaws.{IsLegal}
-use Rattle.sg_answers.specs.Reports.{ViewedSegment, queue_size, asked_contexts, path_order}
-use Rattle.sg_answers.specs.Reports.{live_among, IsSpent, IsNextOf, IsExactSearch}
+use Rattle.sg_answers.specs.Reports.{ViewedSegment, viewed_segment, queue_size}
+use Rattle.sg_answers.specs.Reports.{asked_contexts, path_order}
+use Rattle.sg_answers.specs.Reports.{live_among, IsSpent, IsExactSearch}
 use Rattle.best_first.specs.Exact.{match_cmp, IsInOrder, IsShort, IsExact}
 use Rattle.best_first.specs.Listings.{IsListing}
 use Rattle.best_first.specs.Matches.{Match, ranks_of}
 use Rattle.best_first.specs.PathMatches.{matches_of}
 use Rattle.best_first.proofs.CountLemmas.{begins-starts_with}
-use Rattle.best_first.proofs.LiveLemmas.{Rising, documents_are_rows, segment}
+use Rattle.best_first.proofs.LiveLemmas.{Rising, documents_are_rows}
 use Rattle.best_first.proofs.MemberLemmas.{in-left}
 use Rattle.best_first.proofs.PathOrderLemmas.{order, order_is, is_in_order}
 
@@ -82,7 +82,7 @@ module _ (query : PlainQuery) (ds : List PlainNumbered) (starts : List (List ℕ
   matches = matches_of query ds starts marks
 
   abbrev s : ViewedSegment
-  s = segment query ds starts marks u generation
+  s = viewed_segment generation ds marks
 
   abbrev room : ℕ
   room = queue_size query.k s
@@ -100,7 +100,7 @@ module _ (query : PlainQuery) (ds : List PlainNumbered) (starts : List (List ℕ
     -- the first paths are of as many live documents as their ranking has rows
     first_rows : (first : List Match) → ((m : Match) → In m first → In m by_score)
         → length (live_among s (map (λ (m : Match). m.rank) first))
-            ≡ length (ranked (ranks_of first))
+        ≡ length (ranked (ranks_of first))
     first_rows first i =
         documents_are_rows query ds starts marks u generation first (λ m j. inside m (i m j))
 
@@ -112,18 +112,21 @@ module _ (query : PlainQuery) (ds : List PlainNumbered) (starts : List (List ℕ
         ap (λ rs. slice_get rs room) ranks_are ∙ h.next in
         let st = stands (λ (m : Match). m.rank) by_score room next place in
         let firsts : take room (path_order query s)
-            ≡ map (λ (m : Match). m.rank) (take room by_score) =
+        ≡ map (λ (m : Match). m.rank) (take room by_score) =
         ap (take room) (sym ranks_are) ∙ take-map (λ (m : Match). m.rank) room by_score in
         let rows = first_rows (take room by_score) (λ m i. in-take m room by_score i) in
         let same = ap (λ rs. length (live_among s rs)) firsts in
-        let less = h.few in
-        (st.item, record {
-          first = take room by_score;
-          after = st.after;
-          is = st.is;
-          as_many = st.as_many;
-          few = omega (arith, rows, same, less);
-        }, st.value)
+        let less = h.few in (
+          st.item,
+          record {
+            first = take room by_score;
+            after = st.after;
+            is = st.is;
+            as_many = st.as_many;
+            few = omega (arith, rows, same, less);
+          },
+          st.value,
+        )
 
     member_first : (m next : Match) (first after : List Match)
         → by_score ≡ first ++ next ∷ after → In m first → In m by_score
@@ -168,7 +171,7 @@ module _ (query : PlainQuery) (ds : List PlainNumbered) (starts : List (List ℕ
   pub exact_by : (cut : Option PlainCut)
       → (length (asked_contexts query ds) ≡ 1 → length starts ≤ 1)
       → (length (asked_contexts query ds) ≡ 1 → (order : List Match) → IsInOrder matches order
-          → IsExact order query.k room cut)
+      → IsExact order query.k room cut)
       → IsExactSearch query s cut
   exact_by cut single exact =
       exact_from cut (λ one. exact_at one (single one) cut
