@@ -1,3 +1,4 @@
+pub mod Overs
 pub mod EntryLemmas
 pub mod RowLemmas
 pub mod ListLemmas
@@ -17,10 +18,6 @@ pub mod PrefixLemmas
 pub mod OrderLemmas
 pub mod ShortLemmas
 pub mod ExactLemmas
-pub mod SumLemmas
-pub mod CountLemmas
-pub mod AnswerLemmas
-pub mod Overs
 pub mod ChildLemmas
 pub mod FamilyLemmas
 pub mod Grounds
@@ -28,10 +25,19 @@ pub mod TextLemmas
 pub mod StartLemmas
 pub mod OverLemmas
 pub mod ArcLemmas
-pub mod PathListLemmas
 pub mod ListingLemmas
 pub mod SegmentLemmas
+pub mod PathListLemmas
 pub mod GroundLemmas
 pub mod KeyLemmas
 pub mod SearchesLemmas
 pub mod LoadLemmas
+pub mod SumLemmas
+pub mod CountLemmas
+pub mod AnswerLemmas
+pub mod AskedLemmas
+pub mod OrderedLemmas
+pub mod PathOrderLemmas
+pub mod LiveLemmas
+pub mod SpentLemmas
+pub mod ReportLemmas
