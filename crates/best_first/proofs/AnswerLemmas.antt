@@ -1,16 +1,18 @@
 -- The answer over documents is the ranking of their matching paths.
-use Rattle.std.proofs.Common.{◌≡◌, ◌⊎◌, inl, inr, ℕ, Bool, true, false, cond, nat_eq}
+use Rattle.std.proofs.Common.{◌≡◌, inl, inr, ℕ, true, false, nat_eq}
 use Rattle.std.proofs.Common.{List, [], ◌∷◌, refl, sym, ap, ◌∙◌, subst, arith}
 use Rattle.std.specs.Prelude.{Option, Some, None, filter_map, flat_map, slice_get, option_map}
 use Rattle.std.specs.List.{cons_option}
+use Rattle.std.specs.declared.cmp.Ordering.TheVariants.{Equal}
 use Rattle.std.proofs.lemmas.Bool.Decides.{nat_tests}
 use Rattle.sg_base.specs.Lists.{In, Pairs}
-use Rattle.sg_base.specs.Ranking.{rank_cmp, put_in, in_order, IsRanking}
+use Rattle.sg_base.specs.Ranking.{rank_cmp, rank_cmp_total, in_order, IsRanking}
 use Rattle.sg_base.specs.Rows.{ranked}
 use Rattle.sg_base.specs.declared.rank.Rank.{Rank}
 use Rattle.sg_base.proofs.InOrderLemmas.{in-in_order, pairs-in_order}
-use Rattle.sg_base.proofs.Orders.{at_most_itself, at_most_trans, weaken}
-use Rattle.sg_base.proofs.RankingLemmas.{rank_lt, ranks_ordered, Ascending, Once, one_rank}
+use Rattle.sg_base.proofs.Orders.{at_most_itself}
+use Rattle.sg_base.proofs.RankLemmas.{rank_cmp_exact}
+use Rattle.sg_base.proofs.RankingLemmas.{rank_lt, ranks_ordered, Ascending, Once}
 use Rattle.sg_base.proofs.RankingLemmas.{ranking_unique}
 use Rattle.collector.proofs.RankingLemmas.{is_ranking-ranked}
 use Rattle.sg_context.specs.Queries.{PlainQuery}
@@ -18,66 +20,9 @@ use Rattle.sg_paths.specs.Operations.{PlainNumbered}
 use Rattle.sg_paths.specs.Paths.{PlainPath, paths}
 use Rattle.sg_answers.specs.Answers.{path_boost, path_rank, rank_with, matching_ranks, first_rank}
 use Rattle.sg_answers.specs.Answers.{document_row, answer}
+use Rattle.best_first.proofs.OrderedLemmas.{RisesBy, rises_in_order, in_order-has, strictly}
+use Rattle.best_first.proofs.OrderedLemmas.{pairs-members}
 use Rattle.best_first.proofs.MemberLemmas.{in-filter_map, filter_map-has, in-flat_map, flat_map-has}
-
--- a list in order
-put_has_at : (b : Bool) (e x y : Rank) (ys : List Rank)
-    → ((e ≡ x) ⊎ In e ys → In e (put_in rank_cmp x ys)) → (e ≡ x) ⊎ ((e ≡ y) ⊎ In e ys)
-    → In e (cond b (y ∷ put_in rank_cmp x ys) (x ∷ (y ∷ ys)))
-put_has_at true e x y ys more (inl h) = inr (more (inl h))
-put_has_at true e x y ys more (inr (inl h)) = inl h
-put_has_at true e x y ys more (inr (inr h)) = inr (more (inr h))
-put_has_at false e x y ys more h = h
-
-put_has : (e x : Rank) (ys : List Rank) → (e ≡ x) ⊎ In e ys → In e (put_in rank_cmp x ys)
-put_has e x [] h = h
-put_has e x (y ∷ ys) h = put_has_at (rank_lt y x) e x y ys (put_has e x ys) h
-
-in_order-has : (e : Rank) (xs : List Rank) → In e xs → In e (in_order rank_cmp xs)
-in_order-has e [] h = h
-in_order-has e (x ∷ xs) (inl h) = put_has e x (in_order rank_cmp xs) (inl h)
-in_order-has e (x ∷ xs) (inr h) = put_has e x (in_order rank_cmp xs) (inr (in_order-has e xs h))
-
-in_put_at : (b : Bool) (e x y : Rank) (ys : List Rank)
-    → (In e (put_in rank_cmp x ys) → (e ≡ x) ⊎ In e ys)
-    → In e (cond b (y ∷ put_in rank_cmp x ys) (x ∷ (y ∷ ys))) → (e ≡ x) ⊎ ((e ≡ y) ⊎ In e ys)
-in_put_at true e x y ys more (inl h) = inr (inl h)
-in_put_at true e x y ys more (inr h) =
-    elim (more h) as (λ _. (e ≡ x) ⊎ ((e ≡ y) ⊎ In e ys)) [ inl k ↦ inl k | inr k ↦ inr (inr k) ]
-in_put_at false e x y ys more h = h
-
-in_put : (e x : Rank) (ys : List Rank) → In e (put_in rank_cmp x ys) → (e ≡ x) ⊎ In e ys
-in_put e x [] h = h
-in_put e x (y ∷ ys) h = in_put_at (rank_lt y x) e x y ys (in_put e x ys) h
-
--- none is followed by one before it
-abbrev Rises : List Rank → Type 0
-Rises = Pairs (λ a b. rank_lt b a ≡ false)
-
-rises_put_at : (b : Bool) (x y : Rank) (ys : List Rank) → rank_lt y x ≡ b → Rises (y ∷ ys)
-    → Rises (put_in rank_cmp x ys) → Rises (cond b (y ∷ put_in rank_cmp x ys) (x ∷ (y ∷ ys)))
-rises_put_at true x y ys is up h = (
-  λ e i. elim (in_put e x ys i) as (λ _. rank_lt e y ≡ false) [
-    | inl k ↦ subst (λ z. rank_lt z y ≡ false) (sym k) (weaken rank_lt ranks_ordered y x is)
-    | inr k ↦ up.0 e k
-  ],
-  h,
-)
-rises_put_at false x y ys is up h = (
-  λ e i. elim i as (λ _. rank_lt e x ≡ false) [
-    | inl k ↦ subst (λ z. rank_lt z x ≡ false) (sym k) is
-    | inr k ↦ at_most_trans rank_lt ranks_ordered x y e is (up.0 e k)
-  ],
-  up,
-)
-
-rises_put : (x : Rank) (ys : List Rank) → Rises ys → Rises (put_in rank_cmp x ys)
-rises_put x [] up = (λ e i. elim i [ ], tt)
-rises_put x (y ∷ ys) up = rises_put_at (rank_lt y x) x y ys refl up (rises_put x ys up.1)
-
-rises_in_order : (xs : List Rank) → Rises (in_order rank_cmp xs)
-rises_in_order [] = tt
-rises_in_order (x ∷ xs) = rises_put x (in_order rank_cmp xs) (rises_in_order xs)
 
 turned : (m n : ℕ) → nat_eq m n ≡ false → nat_eq n m ≡ false
 turned m n h = grind (arith, nat_tests)
@@ -89,27 +34,27 @@ once_in_order xs o =
 itself : (n : ℕ) → nat_eq n n ≡ true
 itself n = grind (arith, nat_tests)
 
-decided : (b : Bool) → (b ≡ false → ⊥) → b ≡ true
-decided true f = refl
-decided false f = absurd (f refl)
-
-strict : (x y : Rank) → rank_lt y x ≡ false → nat_eq x.seq y.seq ≡ false → rank_lt x y ≡ true
-strict x y h n =
-    decided (rank_lt x y) (λ k.
-    let same : x ≡ y = one_rank x y k h in
+apart : (x y : Rank) → nat_eq x.seq y.seq ≡ false → rank_cmp x y ≡ Equal → ⊥
+apart x y n ties =
+    let same : x ≡ y = rank_cmp_exact x y ties in
     let no : true ≡ false =
-    sym (itself x.seq) ∙ subst (λ z. nat_eq x.seq z.seq ≡ false) (sym same) n in cc)
+    sym (itself x.seq) ∙ subst (λ z. nat_eq x.seq z.seq ≡ false) (sym same) n in absurd cc
 
-strictly : (xs : List Rank) → Rises xs → Once xs → Ascending xs
-strictly [] up o = tt
-strictly (x ∷ xs) up o = (λ y i. strict x y (up.0 y i) (o.0 y i), strictly xs up.1 o.1)
+rises : (xs : List Rank) → RisesBy rank_cmp rank_cmp_total (in_order rank_cmp xs)
+rises xs = rises_in_order rank_cmp rank_cmp_total xs
+
+rising : (xs : List Rank) → Once (in_order rank_cmp xs) → Ascending (in_order rank_cmp xs)
+rising xs o =
+    strictly rank_cmp rank_cmp_total (in_order rank_cmp xs) (rises xs)
+    (pairs-members (λ a b. nat_eq a.seq b.seq ≡ false) (λ a b. rank_cmp a b ≡ Equal → ⊥)
+    (in_order rank_cmp xs) o (λ x y i j n. apart x y n))
 
 -- the rows of documents
 head_in : (r : Rank) (xs : List Rank) → slice_get xs 0 ≡ Some r → In r xs
 head_in r [] h = cc
 head_in r (x ∷ xs) h = inl (let t : r ≡ x = cc in t)
 
-head_of : (s : Rank) (xs : List Rank) → In s xs → Rises xs
+head_of : (s : Rank) (xs : List Rank) → In s xs → RisesBy rank_cmp rank_cmp_total xs
     → (r : Rank) × (slice_get xs 0 ≡ Some r) × (rank_lt s r ≡ false)
 head_of s [] i up = elim i [ ]
 head_of s (x ∷ xs) (inl i) up =
@@ -122,7 +67,7 @@ first_rank-in r xs h = in-in_order rank_cmp r xs (head_in r (in_order rank_cmp x
 first_rank-least : (s : Rank) (xs : List Rank) → In s xs
     → (r : Rank) × (first_rank xs ≡ Some r) × (rank_lt s r ≡ false)
 first_rank-least s xs i =
-    head_of s (in_order rank_cmp xs) (in_order-has s xs i) (rises_in_order xs)
+    head_of s (in_order rank_cmp xs) (in_order-has rank_cmp s xs i) (rises xs)
 
 seq_of : (seq : ℕ) (p : PlainPath) (b : Option ℕ) (r : Rank)
     → option_map (rank_with seq p) b ≡ Some r → r.seq ≡ seq
@@ -171,7 +116,7 @@ is_ranking-answer query ds d =
     let rows : List Rank = filter_map (document_row query) ds in
     let once : Once (in_order rank_cmp rows) = once_in_order rows (once_rows query ds d) in
     record {
-      ascending = strictly (in_order rank_cmp rows) (rises_in_order rows) once;
+      ascending = rising rows once;
       once = once;
       from = λ r i.
           let e = in-filter_map (document_row query) r ds (in-in_order rank_cmp r rows i) in
@@ -181,7 +126,7 @@ is_ranking-answer query ds d =
           let e = in-flat_map (matching_ranks query) s ds i in
           let r = first_rank-least s (matching_ranks query e.0) e.2 in (
             r.0,
-            in_order-has r.0 rows (filter_map-has (document_row query) r.0 e.0 ds r.1 e.1),
+            in_order-has rank_cmp r.0 rows (filter_map-has (document_row query) r.0 e.0 ds r.1 e.1),
             row_seq query e.0 r.0 r.1 ∙ sym (matching_ranks-seq query e.0 s e.2),
             r.2,
           );

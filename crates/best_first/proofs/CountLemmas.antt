@@ -1,8 +1,8 @@
 -- The matching paths that a search meets are those of the documents, each once.
 use Rattle.std.proofs.Common.{◌≡◌, ◌+◌, ◌*◌, ℕ, suc, Bool, true, false, ◌&&◌, cond, nat_eq}
-use Rattle.std.proofs.Common.{filter, map, List, [], ◌∷◌, ◌++◌, get_or, refl, sym, ap, ◌∙◌, arith}
+use Rattle.std.proofs.Common.{filter, map, List, [], ◌∷◌, refl, sym, ap, ◌∙◌, arith}
 use Rattle.std.proofs.Common.{Option, Some, None}
-use Rattle.std.specs.Prelude.{is_some, flat_map, filter_map, option_map}
+use Rattle.std.specs.Prelude.{is_some, filter_map, option_map}
 use Rattle.std.specs.List.{starts_with, cons_option}
 use Rattle.sg_base.specs.ByteStrings.{begins}
 use Rattle.sg_base.specs.Ranking.{in_order}
@@ -14,11 +14,11 @@ use Rattle.sg_paths.specs.Paths.{PlainPath, paths}
 use Rattle.sg_paths.specs.AllPaths.{Entry, FullPath, entry_of, path_entries, entry_cmp}
 use Rattle.sg_paths.specs.AllPaths.{number_after, numbered, all_paths}
 use Rattle.sg_answers.specs.Answers.{matching_ranks, path_rank, rank_with}
-use Rattle.sg_answers.specs.Reports.{matching}
+use Rattle.sg_answers.specs.Reports.{matching, live_of}
 use Rattle.fst_walk.specs.Starts.{total}
 use Rattle.best_first.specs.Matches.{Match, ranks_of}
-use Rattle.best_first.specs.PathMatches.{Setting, boost_or, rank_of, match_of, is_match, all_matches}
-use Rattle.best_first.specs.PathMatches.{live_of, live_at, seq_at, no_document, setting_of}
+use Rattle.best_first.specs.PathMatches.{Setting, boost_or, rank_of, match_of, is_match}
+use Rattle.best_first.specs.PathMatches.{live_at, seq_at, setting_of}
 use Rattle.best_first.specs.PathMatches.{matches_of}
 use Rattle.best_first.proofs.SumLemmas.{total-append, total-map, total-in_order, total-filter}
 

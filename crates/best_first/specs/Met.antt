@@ -1,7 +1,7 @@
 -- What it means that an entry stands over a node of a segment's transducer. No public clause cites
 -- it. Source: this project's own.
-use Rattle.std.specs.Prelude.{ℕ, zero, suc, ◌≡◌, ◌<◌, ◌+◌, ◌-◌, ◌*◌, true, Some, List, [], ◌∷◌, ◌++◌}
-use Rattle.std.specs.Prelude.{length}
+use Rattle.std.specs.Prelude.{ℕ, zero, suc, ◌≡◌, ◌<◌, ◌+◌, ◌-◌, ◌*◌, true, Some, List, []}
+use Rattle.std.specs.Prelude.{◌∷◌, ◌++◌, length}
 use Rattle.sg_base.specs.ByteStrings.{begins}
 use Rattle.sg_base.specs.declared.limits.TheConstants.{MOST_WEIGHT}
 use Rattle.sg_base.specs.declared.node.Edge.{Edge}

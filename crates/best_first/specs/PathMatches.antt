@@ -1,6 +1,5 @@
--- The matching paths of documents as a search meets them. No public clause cites it but through
--- `live_of`. Source: Lucene's suggest.document, whose contexts lead the key; the bytes are this
--- project's own.
+-- The matching paths of documents as a search meets them. No public clause cites it. Source:
+-- Lucene's suggest.document, whose contexts lead the key; the bytes are this project's own.
 use Rattle.std.specs.Prelude.{ℕ, ◌-◌, ◌*◌, suc, Bool, false, ◌&&◌, if◌then◌else◌, is_some, bytes_eq}
 use Rattle.std.specs.Prelude.{Option, Some, None, map, filter, get_or, List, [], ◌∷◌, ◌++◌}
 use Rattle.std.specs.Int.{w32, to_be_bytes}
@@ -14,12 +13,7 @@ use Rattle.sg_paths.specs.AllPaths.{Entry, FullPath, path_bytes, all_paths}
 use Rattle.sg_paths.specs.Operations.{PlainNumbered}
 use Rattle.fst_code.specs.Tails.{Tail}
 use Rattle.best_first.specs.Matches.{Match}
-
--- the live ones of documents, by their live docs
-abbrev pub live_of : List PlainNumbered → List Bool → List PlainNumbered
-live_of [] marks = []
-live_of (d ∷ ds) [] = []
-live_of (d ∷ ds) (live ∷ marks) = if live then d ∷ live_of ds marks else live_of ds marks
+pub use Rattle.sg_answers.specs.Reports.{live_of}
 
 -- a path with its cost, as a transducer maps it
 abbrev pub tail_of : FullPath → Tail

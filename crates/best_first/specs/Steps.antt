@@ -1,9 +1,11 @@
 -- How entries go on by the arcs of a segment's nodes. No public clause cites it. Source: the best
 -- first search of Lucene's TopNSearcher; over min-plus, where an arc of cost 0 keeps the score.
 use Rattle.std.specs.Prelude.{ℕ, ◌≡◌, ◌<◌, ◌≤◌, ◌+◌, ◌-◌, ◌*◌, ◌^◌, List, [], ◌∷◌, ◌++◌, map}
-use Rattle.std.specs.Prelude.{length, get_or}
+use Rattle.std.specs.Prelude.{length, get_or, max}
 use Rattle.sg_base.specs.Lists.{In}
 use Rattle.sg_base.specs.declared.node.Edge.{Edge}
+use Rattle.fst_code.specs.Lists.{root_paths}
+use Rattle.fst_code.specs.Tails.{Tail}
 use Rattle.path_desk.specs.declared.entry.Entry.{Entry}
 use Rattle.path_desk.specs.Entries.{Queued, queued}
 use Rattle.path_desk.specs.Desks.{PlainDesk, put_entry}
@@ -51,8 +53,13 @@ abbrev pub HasFreeArc : List Edge → Type 0
 HasFreeArc edges = (us : List Edge) × (vs : List Edge) × (a : Edge) × IsFree edges us vs a
 
 -- the most bytes of a path
-abbrev pub most_path_bytes : ℕ
-most_path_bytes = 324
+abbrev pub most_bytes : List Tail → ℕ
+most_bytes [] = 0
+most_bytes (t ∷ ts) = max (length t.0) (most_bytes ts)
+
+-- the same of the paths that nodes map
+abbrev pub most_path_bytes : List (List Edge) → ℕ
+most_path_bytes nodes = most_bytes (root_paths nodes)
 
 -- The entries of which P holds go on by the arcs of the nodes, one of which costs nothing, and end
 -- at node 0: there each is the matching path with its ordinal.
@@ -61,7 +68,8 @@ pub record Knows (all : List Match) (P : Queued → Type 0) (nodes : List (List 
   pub is_node : (p : Queued) → P p → p.entry.node.0 < length nodes
   pub within : (p : Queued) → P p → (a : Edge) → In a (arcs_of nodes p.entry.node.0)
       → IsWithin p.entry a
-  pub short : (p : Queued) → P p → (p.entry.node.0 ≡ 0 → ⊥) → length p.bytes < most_path_bytes
+  pub short : (p : Queued) → P p → (p.entry.node.0 ≡ 0 → ⊥)
+      → length p.bytes < most_path_bytes nodes
   pub free : (p : Queued) → P p → (p.entry.node.0 ≡ 0 → ⊥)
       → HasFreeArc (arcs_of nodes p.entry.node.0)
   pub family : (p : Queued) (us vs : List Edge) (a : Edge) → P p → (p.entry.node.0 ≡ 0 → ⊥)

@@ -3,6 +3,7 @@
 -- Source: this project's own, after the admissible queue of Lucene's NRTSuggester.
 use Rattle.std.specs.Prelude.{◌≡◌, ◌≤◌, ◌<◌, ◌+◌, ◌-◌, ◌*◌, ◌/◌, ℕ, min, max, Bool, true, ◌&&◌}
 use Rattle.std.specs.Prelude.{nat_eq, nat_le, List, [], ◌∷◌, length, map, filter, take, fold}
+use Rattle.std.specs.Prelude.{if◌then◌else◌}
 use Rattle.std.specs.Prelude.{Option, Some, None, is_some, slice_get, Contains}
 use Rattle.std.specs.List.{flat_map, list_any, starts_with}
 use Rattle.std.specs.Ordering.{is_le}
@@ -21,6 +22,17 @@ pub record ViewedSegment : Type 0 where
   pub generation : ℕ
   pub documents : List PlainNumbered
   pub live : List PlainNumbered
+
+-- the live ones of documents, by their live docs
+abbrev pub live_of : List PlainNumbered → List Bool → List PlainNumbered
+live_of [] marks = []
+live_of (d ∷ ds) [] = []
+live_of (d ∷ ds) (live ∷ marks) = if live then d ∷ live_of ds marks else live_of ds marks
+
+-- the segment of documents with these live docs
+abbrev pub viewed_segment : ℕ → List PlainNumbered → List Bool → ViewedSegment
+viewed_segment generation ds marks =
+    record { generation = generation; documents = ds; live = live_of ds marks }
 
 -- the live documents of segments
 abbrev pub live_in : List ViewedSegment → List PlainNumbered
