@@ -36,9 +36,9 @@ doc_within k (d ∷ ds) e i =
     elim (in-append e (map (entry_of k) (paths d.document)) (path_entries (k + 1) ds) i) as
     (λ _. e.doc < k + suc (length ds)) [
       | inl j ↦
-        let r = in-map (entry_of k) e (paths d.document) j in
-        let q : e.doc ≡ k = ap (λ (z : Entry). z.doc) r.2 in
-        omega (arith, q)
+          let r = in-map (entry_of k) e (paths d.document) j in
+          let q : e.doc ≡ k = ap (λ (z : Entry). z.doc) r.2 in
+          omega (arith, q)
       | inr j ↦ let h = doc_within (k + 1) ds e j in omega (arith, h)
     ]
 

@@ -38,8 +38,14 @@ use Rattle.sg_paths.specs.Operations.{PlainNumbered}
 
 is_root : (old new : StartsLeft) (st : Start) (i : IsStart old new st)
     → IsRoot old.query old.nodes old.given i.context (entry_of_start st)
-is_root old new st i = record { start = i.number; boost = i.boost; is_node = i.spot.is_node; meets =
-        i.spot.meets; score = refl }
+is_root old new st i = record {
+  start = i.number;
+  boost = i.boost;
+  is_node = i.spot.is_node;
+  meets =
+      i.spot.meets;
+  score = refl;
+}
 
 roots-append : (q : PlainQuery) (t : List (List Edge)) (n m : ℕ) (cs : List (List ℕ))
     (es : List Entry) (c : List ℕ) (e : Entry) → AreRoots q t n cs es
@@ -61,11 +67,11 @@ loading-new q t left e f g = record
 pub loading-next : (q : PlainQuery) (t : List (List Edge)) (cs : List (List ℕ))
     (old new : StartsLeft) (roots : List Entry) (st : Start)
     → Loading q t cs old roots → IsStart old new st → new.query ≡ old.query → new.nodes ≡ old.nodes
-        → Loading q t cs new (roots ++ entry_of_start st ∷ [])
+    → Loading q t cs new (roots ++ entry_of_start st ∷ [])
 loading-next q t cs old new roots st l i e f =
     let r0 = is_root old new st i in
     let r1 = subst (λ z. IsRoot z old.nodes old.given i.context (entry_of_start st)) l.of_query r0
-        in
+    in
     let r2 = subst (λ z. IsRoot q z old.given i.context (entry_of_start st)) l.of_nodes r1 in
     let g = l.given in
     let n = i.given in
@@ -87,7 +93,7 @@ pub loading-end : (q : PlainQuery) (t : List (List Edge)) (cs : List (List ℕ))
     → Loading q t cs left roots → left.contexts ≡ [] → AreRoots q t 0 cs roots
 loading-end q t cs left roots l e =
     subst (λ z. AreRoots q t 0 z roots)
-        (sym (append-nil l.done) ∙ ap (λ z. l.done ++ z) (sym e) ∙ sym l.is) l.roots_are
+    (sym (append-nil l.done) ∙ ap (λ z. l.done ++ z) (sym e) ∙ sym l.is) l.roots_are
 
 pub put_all-more : (d : PlainDesk) (f : Entry → Queued) (es : List Entry) (e : Entry)
     → put_all d (map f (es ++ e ∷ [])) ≡ put_entry (put_all d (map f es)) (f e)
@@ -110,28 +116,29 @@ pub start_cost : (q : PlainQuery) (t : List (List Edge)) (ds : List PlainNumbere
     → Loading q t cs old roots → IsStart old new st → st.spot.cost ≤ MOST_WEIGHT
 start_cost q t ds cs old new roots st m l i =
     let spot = subst (λ z. IsSpot z (i.context ++ 29 ∷ old.query.prefix) st.spot) l.of_nodes i.spot
-        in
+    in
     place_cost (root_paths t) (tails t) _ _ _ _ 2147483647 spot.meets
-        (m.transducer.some st.spot.node.0 spot.is_node) m.transducer.cheap
+    (m.transducer.some st.spot.node.0 spot.is_node) m.transducer.cheap
 
 -- one more start
 pub loaded-next : (q : PlainQuery) (t : List (List Edge)) (cs : List (List ℕ)) (d0 d d' : PlainDesk)
     (key : List ℕ) (old new : StartsLeft) (roots : List Entry) (st : Start) (e : Entry) (n : ℕ)
     → Loading q t cs old roots → d ≡ put_all d0 (started q.prefix roots) → n ≡ length roots
-        → IsStart old new st → new.query ≡ old.query
+    → IsStart old new st → new.query ≡ old.query
     → new.nodes ≡ old.nodes → e ≡ entry_of_start st → key ≡ q.prefix
-        → d' ≡ put_entry d (queued e key)
+    → d' ≡ put_entry d (queued e key)
     → (more : List Entry) × Loading q t cs new more × (d' ≡ put_all d0 (started q.prefix more))
-        × (n + 1 ≡ length more)
+    × (n + 1 ≡ length more)
 loaded-next q t cs d0 d d' key old new roots st e n l h k i a b f g p =
-    let len = length-append roots (entry_of_start st ∷ []) in
-    (roots ++ entry_of_start st ∷ [],
-     loading-next q t cs old new roots st l i a b,
-     p ∙ ap (λ z. put_entry d (queued z key)) f
-         ∙ ap (λ z. put_entry d (queued (entry_of_start st) z)) g
-         ∙ ap (λ z. put_entry z (queued (entry_of_start st) q.prefix)) h
-     ∙ sym (put_all-more d0 (λ e. queued e q.prefix) roots (entry_of_start st)),
-     omega (arith, k, len))
+    let len = length-append roots (entry_of_start st ∷ []) in (
+      roots ++ entry_of_start st ∷ [],
+      loading-next q t cs old new roots st l i a b,
+      p ∙ ap (λ z. put_entry d (queued z key)) f
+          ∙ ap (λ z. put_entry d (queued (entry_of_start st) z)) g
+          ∙ ap (λ z. put_entry z (queued (entry_of_start st) q.prefix)) h
+          ∙ sym (put_all-more d0 (λ e. queued e q.prefix) roots (entry_of_start st)),
+      omega (arith, k, len),
+    )
 
 pub fewer-left : (old new : StartsLeft) (st : Start) → IsStart old new st
     → length new.contexts < length old.contexts

@@ -51,7 +51,7 @@ number_of (x ∷ xs) zero c d i =
     ap (λ b. cond b 0 (suc (place_of c xs))) ((bytes_decides c x).1 (sym i))
 number_of (x ∷ xs) (suc n) c d i =
     number_by c x n (place_of c xs) (bytes_eq c x) refl (d.0 c (at_in xs n c i))
-        (number_of xs n c d.1 i)
+    (number_of xs n c d.1 i)
 
 pub at_few : (xs : List (List ℕ)) (n : ℕ) (c : List ℕ) → IsAt xs n c → n < length xs
 at_few [] n c i = elim i [ ]

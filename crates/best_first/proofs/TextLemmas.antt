@@ -42,9 +42,9 @@ begins_key t [] k n l h = refl
 begins_key t (a ∷ p) [] n l h =
     let r = and_parts (eqb a t) (begins p n) h in
     let e : a ≡ t = same a t r.0 in absurd ((lacks_parts t a p l).0 e)
-    where
-      same : (x y : ℕ) → eqb x y ≡ true → x ≡ y
-      same x y e = grind arith
+  where
+    same : (x y : ℕ) → eqb x y ≡ true → x ≡ y
+    same x y e = grind arith
 begins_key t (a ∷ p) (b ∷ k) n l h =
     let r = and_parts (eqb a b) (begins p (k ++ t ∷ n)) h in
     let i = begins_key t p k n (lacks_parts t a p l).1 r.1 in rw (r.0, i) refl
@@ -60,10 +60,11 @@ pub key_is : (k n : List ℕ) → lacks 0 k ≡ true → key_part (k ++ 0 ∷ n)
 key_is [] n l = refl
 key_is (b ∷ k) n l =
     let r = lacks_parts 0 b k l in at (eqb b 0) refl r.0 (key_is k n r.1)
-    where
-      same : (x y : ℕ) → eqb x y ≡ true → x ≡ y
-      same x y e = grind arith
-      at : (c : Bool) → eqb b 0 ≡ c → (b ≡ 0 → ⊥) → key_part (k ++ 0 ∷ n) ≡ k
-          → cond c [] (b ∷ key_part (k ++ 0 ∷ n)) ≡ b ∷ k
-      at true e f h = absurd (f (same b 0 e))
-      at false e f h = ap (λ z. b ∷ z) h
+  where
+    same : (x y : ℕ) → eqb x y ≡ true → x ≡ y
+    same x y e = grind arith
+
+    at : (c : Bool) → eqb b 0 ≡ c → (b ≡ 0 → ⊥) → key_part (k ++ 0 ∷ n) ≡ k
+        → cond c [] (b ∷ key_part (k ++ 0 ∷ n)) ≡ b ∷ k
+    at true e f h = absurd (f (same b 0 e))
+    at false e f h = ap (λ z. b ∷ z) h

@@ -110,7 +110,7 @@ fn follow_arc<S: SegParts<L>, L>(
         → FollowsPath s (S.nodes parts.now) (S.listed parts.now) r desk.old entry
         → IfOk result (λ e. FollowsPath s (S.nodes parts.now) (S.listed parts.now) r desk.new e) }
     ensures longer { OnOk result (length (path_of desk.new) ≡ length (path_of desk.old) + 1) }
-    ensures within { length (path_of desk.old) < most_path_bytes }
+    ensures within { length (path_of desk.old) < most_path_bytes (S.nodes parts.now) }
     ensures fixed { OnOk result
         ((desk.new.reached ≡ desk.old.reached) × (desk.new.room ≡ desk.old.room)) }
     ensures tick { steps.new ≡ steps.old + 1 }
@@ -142,7 +142,7 @@ pub fn follow_to_end<S: SegParts<L>, L>(
         × (e.node.0 ≡ 0)) }
     ensures fixed { OnOk result
         ((desk.new.reached ≡ desk.old.reached) × (desk.new.room ≡ desk.old.room)) }
-    ensures ticks { steps.new ≤ steps.old + (most_path_bytes - length (path_of desk.old)) }
+    ensures ticks { steps.new ≤ steps.old + (most_path_bytes (S.nodes parts.now) - length (path_of desk.old)) }
     ensures lists { (desk.new.lists ≡ desk.old.lists) × (desk.new.need ≡ desk.old.need) }
 {
     let mut entry = first;

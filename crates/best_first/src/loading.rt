@@ -1,5 +1,8 @@
 //! Putting the starts in.
-ghost use Rattle.std.specs.Prelude.{◌≡◌, ◌≤◌, ◌+◌, List, length, IfOk};
+ghost use Rattle.std.specs.Prelude.{◌≡◌, ◌≤◌, ◌+◌, true, List, length, IfOk};
+ghost use Rattle.sg_base.specs.ByteStrings.{lacks};
+ghost use Rattle.sg_base.specs.declared.reserved.TheConstants.{KEY_END};
+ghost use Rattle.sg_context.specs.Queries.{IsQuery};
 ghost use Rattle.sg_base.specs.declared.limits.TheConstants.{MOST_WEIGHT};
 ghost use Rattle.fst_code.specs.Lists.{root_paths};
 ghost use Rattle.fst_walk.specs.Starts.{most_steps};
@@ -40,6 +43,7 @@ pub fn load_starts<S: SegParts<L>, L>(
 ) -> Result<u32, AllocError>
     ensures stands { AreDocuments (S.listed parts.now)
         × IsMapping (S.nodes parts.now) (S.listed parts.now) }
+    ensures query { IsQuery query.now × (lacks KEY_END query.now.prefix ≡ true) }
     ensures loaded { IfOk result (λ count. (roots : List PlainEntry)
         × AreRoots query.now (S.nodes parts.now) 0 (starts_of (S.nodes parts.now) query.now) roots
         × (desk.new ≡ put_all desk.old (started query.now.prefix roots))
@@ -48,10 +52,11 @@ pub fn load_starts<S: SegParts<L>, L>(
         ≤ steps.old + most_steps (root_paths (S.nodes parts.now)) query.now }
     ensures lists { (desk.new.lists ≡ desk.old.lists) × (desk.new.need ≡ desk.old.need) }
 {
+    let prefix = query.prefix.as_slice();
     let mut starts = parts.starts(query);
     let mut count = 0;
     while let Some(start) = starts.next(steps) {
-        desk.put_start(root(start), query.prefix.as_slice())?;
+        desk.put_start(root(start), prefix)?;
         count += 1;
     }
     Ok(count)

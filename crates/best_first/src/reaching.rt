@@ -102,7 +102,7 @@ fn follow_and_reach<S: SegParts<L>, L>(
     ensures kept { IsKept (rows_of (S.key_of parts.now) top.new.hits) }
     ensures k { top.new.k ≡ top.old.k }
     ensures places { top.new.places ≡ top.old.places }
-    ensures ticks { steps.new ≤ steps.old + (most_path_bytes + 1) }
+    ensures ticks { steps.new ≤ steps.old + (most_path_bytes (S.nodes parts.now) + 1) }
     ensures lists { (desk.new.lists ≡ desk.old.lists) × (desk.new.need ≡ desk.old.need) }
 {
     let end = follow_to_end(parts, entry, desk, steps)?;
@@ -130,7 +130,7 @@ pub fn reach_all<S: SegParts<L>, L>(
     requires marks { length live.now ≡ length (S.listed parts.now) }
     requires hits { All (IsHitOf (S.listed parts.now) piece) top.old.hits }
     requires kept { IsKept (rows_of (S.key_of parts.now) top.old.hits) }
-    requires k { top.old.k ≡ query.now.k }
+    requires k { (top.old.k ≡ query.now.k) × (1 ≤ query.now.k) }
     requires fresh { desk.old.reached ≡ 0 }
     requires one { one_start ≡ nat_le (length (starts_of (S.nodes parts.now) query.now)) 1 }
     ensures over { IfOk result (λ cut. IsOver query.now (S.nodes parts.now) (S.listed parts.now)
@@ -139,12 +139,13 @@ pub fn reach_all<S: SegParts<L>, L>(
     ensures kept { IsKept (rows_of (S.key_of parts.now) top.new.hits) }
     ensures k { top.new.k ≡ top.old.k }
     ensures places { top.new.places ≡ top.old.places }
-    ensures ticks { steps.new ≤ steps.old + desk.old.room * (most_path_bytes + 1) }
+    ensures ticks { steps.new ≤ steps.old + desk.old.room * (most_path_bytes (S.nodes parts.now) + 1) }
     ensures lists { (desk.new.lists ≡ desk.old.lists) × (desk.new.need ≡ desk.old.need) }
 {
     while !is_done(parts, desk, top, one_start) {
         let Some(entry) = desk.follow() else {
-            return desk.cut(generation);
+            let cut = desk.cut(generation)?;
+            return Ok(cut);
         };
         follow_and_reach(parts, live, query, piece, entry, desk, top, steps)?;
     }

@@ -17,7 +17,7 @@ invariant-loop-entry g l = record {
       × FollowsPath s (g.S.SegParts.nodes l.parts) (g.S.SegParts.listed l.parts) r l.desk l.entry;
   longer : length (path_of l.initial.desk) ≤ length (path_of l.desk);
   bounded : (length (path_of l.desk) ≡ length (path_of l.initial.desk))
-      ⊎ (length (path_of l.desk) ≤ most_path_bytes);
+      ⊎ (length (path_of l.desk) ≤ most_path_bytes (g.S.SegParts.nodes l.parts));
   ticks : l.steps
       ≡ l.initial.steps + (length (path_of l.desk) - length (path_of l.initial.desk));
   reached : l.desk.reached ≡ l.initial.desk.reached;
@@ -27,4 +27,4 @@ invariant-loop-entry g l = record {
 }
 
 abbrev pub decreases-loop-entry : goal.decreases-loop-entry
-decreases-loop-entry g l = most_path_bytes - length (path_of l.desk)
+decreases-loop-entry g l = most_path_bytes (g.S.SegParts.nodes l.parts) - length (path_of l.desk)
