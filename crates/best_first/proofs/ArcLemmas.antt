@@ -1,45 +1,41 @@
 -- From an entry over a spot to those behind its arcs, and to the end.
-use Rattle.std.proofs.Common.{◌≡◌, ◌≤◌, ◌<◌, ◌+◌, ◌-◌, ◌*◌, ◌^◌, ℕ, zero, suc, Bool, true, false}
-use Rattle.std.proofs.Common.{◌&&◌, cond, nat_eq, eqb, eqb-true, ◌⊎◌, inl, inr, filter, map, List}
-use Rattle.std.proofs.Common.{[], ◌∷◌, ◌++◌, length, length-append, get_or, append_assoc, refl, sym}
-use Rattle.std.proofs.Common.{ap, ◌∙◌, subst, arith, Option, Some, None}
-use Rattle.std.proofs.lemmas.List.{append-nil}
+use Rattle.std.proofs.Common.{◌≡◌, ◌≤◌, ◌<◌, ◌+◌, ◌-◌, ◌*◌, ℕ, zero, suc, Bool, true, false, eqb}
+use Rattle.std.proofs.Common.{eqb-true, inl, inr, map, List, [], ◌∷◌, ◌++◌, length, length-append}
+use Rattle.std.proofs.Common.{get_or, append_assoc, refl, sym, ap, ◌∙◌, subst, arith}
 use Rattle.std.proofs.Math.Nat.{mul-le-mul_right}
-use Rattle.sg_base.specs.declared.limits.TheConstants.{MOST_WEIGHT}
-use Rattle.sg_base.specs.Lists.{In, Pairs}
-use Rattle.sg_base.specs.declared.node.Edge.{Edge}
+use Rattle.std.proofs.lemmas.List.{append-nil}
 use Rattle.sg_base.specs.ByteStrings.{begins}
-use Rattle.sg_base.proofs.ListLemmas.{in-append, in-map, each_in}
-use Rattle.best_first.specs.Lists.{passing}
+use Rattle.sg_base.specs.Lists.{In}
+use Rattle.sg_base.specs.declared.limits.TheConstants.{MOST_WEIGHT}
+use Rattle.sg_base.specs.declared.node.Edge.{Edge}
+use Rattle.sg_base.proofs.ListLemmas.{in-append, in-map}
 use Rattle.sg_paths.specs.AllPaths.{FullPath, path_bytes}
-use Rattle.fst_code.specs.Tails.{Tail, along, spread, tails}
 use Rattle.fst_code.specs.Lists.{root_paths}
-use Rattle.fst_code.specs.Transducers.{IsTransducer, IsNode, Rises}
+use Rattle.fst_code.specs.Tails.{Tail, tails}
 use Rattle.fst_walk.specs.Fronts.{behind}
 use Rattle.fst_walk.specs.Spots.{IsPlace}
-use Rattle.fst_walk.proofs.NodeLemmas.{arc_place}
-use Rattle.fst_walk.proofs.PlaceLemmas.{place_cost, place_ordinal, place_bytes}
-use Rattle.path_desk.specs.Entries.{Queued, queued}
 use Rattle.fst_walk.proofs.BeginLemmas.{begins-append}
-use Rattle.best_first.proofs.MemberLemmas.{in-left, in-right, map-in, in-split}
-use Rattle.best_first.specs.Matches.{Match, covers, Best, Ends}
-use Rattle.best_first.specs.Families.{IsFamily}
-use Rattle.best_first.specs.Steps.{most_bytes, most_path_bytes, IsWithin, HasFreeArc, IsFree, child}
-use Rattle.best_first.specs.Steps.{child_entry, arcs_of}
-use Rattle.best_first.proofs.Overs.{IsSpread, IsOver}
-use Rattle.best_first.proofs.CoverLemmas.{covers-of}
-use Rattle.best_first.proofs.ChildLemmas.{over-child, ends-over, best-over}
-use Rattle.best_first.proofs.FamilyLemmas.{family-over}
-use Rattle.best_first.specs.PathMatches.{tail_of, path_tails, Setting, place_of, bytes_of, rank_of}
-use Rattle.best_first.specs.PathMatches.{match_of, is_match, all_matches, match_at, no_path}
-use Rattle.best_first.proofs.Grounds.{IsPathList, IsGround}
-use Rattle.best_first.specs.Met.{IsAt, IsMet}
 use Rattle.fst_walk.proofs.BoolLemmas.{clash}
-use Rattle.best_first.proofs.TextLemmas.{regroup, key_begins}
-use Rattle.best_first.proofs.StartLemmas.{at_one, at_in, at_place}
+use Rattle.fst_walk.proofs.NodeLemmas.{arc_place}
+use Rattle.fst_walk.proofs.PlaceLemmas.{place_cost, place_ordinal}
+use Rattle.path_desk.specs.Entries.{Queued}
+use Rattle.best_first.specs.Families.{IsFamily}
+use Rattle.best_first.specs.Matches.{Match, Ends}
+use Rattle.best_first.specs.Met.{IsAt, IsMet}
+use Rattle.best_first.specs.PathMatches.{tail_of, Setting, place_of, bytes_of, match_of, is_match}
+use Rattle.best_first.specs.PathMatches.{all_matches, match_at, no_path}
+use Rattle.best_first.specs.Steps.{most_bytes, most_path_bytes, IsWithin, HasFreeArc, IsFree, child}
+use Rattle.best_first.specs.Steps.{arcs_of}
+use Rattle.best_first.proofs.ChildLemmas.{over-child, ends-over}
+use Rattle.best_first.proofs.CoverLemmas.{covers-of}
+use Rattle.best_first.proofs.FamilyLemmas.{family-over}
+use Rattle.best_first.proofs.Grounds.{IsGround}
+use Rattle.best_first.proofs.MemberLemmas.{in-left, in-right, in-split}
 use Rattle.best_first.proofs.OverLemmas.{place_has, in-spread, free_way, arc_low, spreads, over_of}
-use Rattle.best_first.proofs.OverLemmas.{match_from}
-use Rattle.best_first.proofs.OverLemmas.{match_in, path_under}
+use Rattle.best_first.proofs.OverLemmas.{match_from, match_in, path_under}
+use Rattle.best_first.proofs.Overs.{IsOver}
+use Rattle.best_first.proofs.StartLemmas.{at_one, at_place}
+use Rattle.best_first.proofs.TextLemmas.{regroup, key_begins}
 
 -- the first that costs nothing
 first_by : (x : Edge) (xs : List Edge) (e : Edge) (b : Bool) → eqb x.cost 0 ≡ b → In e (x ∷ xs)
@@ -166,8 +162,7 @@ module _ (s : Setting) (t : List (List Edge)) (ps : List FullPath) (g : IsGround
       let f = free_way (tails t p.entry.node.0) (g.sound.free p.entry.node.0 k.is_node) in
       let v : Tail = f.0 in
       let r = in-spread (tails t) (arcs_of t p.entry.node.0) v
-      (subst (In v) (g.sound.inner p.entry.node.0 (positive p.entry.node.0 n) (inside p k)) f.1)
-      in
+      (subst (In v) (g.sound.inner p.entry.node.0 (positive p.entry.node.0 n) (inside p k)) f.1) in
       let e : v.1 ≡ r.0.cost + r.1.1 = ap (λ (z : Tail). z.1) r.4 in
       let z = f.2 in
       first_free (arcs_of t p.entry.node.0) r.0 r.2
@@ -244,8 +239,8 @@ module _ (s : Setting) (t : List (List Edge)) (ps : List FullPath) (g : IsGround
       let own : tails t p.entry.node.0 ≡ ([], 0) ∷ [] =
       ap (tails t) z ∙ (g.sound.the_end (omega (arith, h))).1 in
       let b : List ℕ = k.context ++ 29 ∷ p.bytes in
-      let e = ends-over (all_matches s ps) (tails t) p (over_of s t ps g p k) own different_matches
-      in
+      let e = ends-over (all_matches s ps) (tails t) p (over_of s t ps g p k) own
+      different_matches in
       let split : map tail_of ps ≡ k.meets.before ++ (b ++ [], p.entry.cost + 0) ∷ k.meets.after =
       sym g.lists ∙ k.meets.is ∙ end_split k.meets.before k.meets.after b p.entry.cost
       (tails t p.entry.node.0) own in

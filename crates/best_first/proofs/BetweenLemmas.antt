@@ -1,27 +1,26 @@
 -- Between two paths: nothing is reached yet, a path is taken, and one path more is reached.
-use Rattle.std.proofs.Common.{◌≡◌, ℕ, zero, suc, Bool, true}
-use Rattle.std.proofs.Common.{false, cond, List, [], ◌∷◌, ◌++◌}
-use Rattle.std.proofs.Common.{take, map, refl, sym, ap, ◌∙◌, subst}
-use Rattle.std.specs.Prelude.{None}
+use Rattle.std.proofs.Common.{◌≡◌, ℕ, zero, suc, Bool, true, false, cond, List, [], ◌∷◌, ◌++◌, take}
+use Rattle.std.proofs.Common.{map, refl, sym, ap, ◌∙◌, subst}
 use Rattle.std.specs.List.{filter}
+use Rattle.std.specs.Prelude.{None}
 use Rattle.std.proofs.lemmas.List.{append-nil}
-use Rattle.sg_base.specs.declared.rank.Rank.{Rank}
-use Rattle.sg_base.specs.Rows.{ranked, put_row}
 use Rattle.sg_base.specs.Ranking.{IsKept}
+use Rattle.sg_base.specs.Rows.{ranked, put_row}
 use Rattle.sg_base.specs.declared.node.Edge.{Edge}
-use Rattle.path_desk.specs.declared.entry.Entry.{Entry}
+use Rattle.sg_base.specs.declared.rank.Rank.{Rank}
+use Rattle.path_desk.specs.Desks.{PlainDesk, taken_room, path_of, path_ended, following, cleared}
+use Rattle.path_desk.specs.Desks.{put_entry}
 use Rattle.path_desk.specs.Entries.{Queued, queued}
-use Rattle.path_desk.specs.Desks.{PlainDesk, taken_room, path_of, path_ended}
-use Rattle.path_desk.specs.Desks.{following, cleared, put_entry}
-use Rattle.collector.proofs.RankingLemmas.{is_ranking-ranked}
+use Rattle.path_desk.specs.declared.entry.Entry.{Entry}
 use Rattle.collector.proofs.KeptLemmas.{put_row-take}
+use Rattle.collector.proofs.RankingLemmas.{is_ranking-ranked}
 use Rattle.best_first.specs.Matches.{Match, Ends, ranks_of}
 use Rattle.best_first.specs.Progress.{Progress}
 use Rattle.best_first.specs.Segments.{Searching, Follows, Between, IsSegment, started}
 use Rattle.best_first.specs.Steps.{put_all}
-use Rattle.best_first.proofs.SearchLemmas.{searching-put_all, followed-put_all}
 use Rattle.best_first.proofs.ChooseLemmas.{progress-reach, progress-begin}
 use Rattle.best_first.proofs.ProgressLemmas.{progress-take}
+use Rattle.best_first.proofs.SearchLemmas.{searching-put_all, followed-put_all}
 
 pub put-kept : (k : ℕ) (r : Rank) (rows ms : List Rank) → rows ≡ take k (ranked ms)
     → take k (put_row r rows) ≡ take k (ranked (r ∷ ms))
@@ -35,8 +34,8 @@ pub between-reached : (all : List Match) (P : Queued → Type 0) (reached : List
     → Searching all P (m ∷ reached) (path_ended d) [] None
 between-reached all P reached d e m f n = record {
   progress =
-      subst (λ o. Progress all P (m ∷ reached) d.room [] d.waiting (taken_room d.reached o) d.dropped
-      None) f.path
+      subst (λ o. Progress all P (m ∷ reached) d.room [] d.waiting (taken_room d.reached o)
+      d.dropped None) f.path
       (progress-reach all P reached d.room (queued e (path_of d)) [] d.waiting
       (taken_room d.reached d.followed) d.dropped f.searching.progress m n);
 }

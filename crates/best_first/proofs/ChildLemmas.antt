@@ -1,31 +1,23 @@
 -- From an entry over a node to the entry behind an arc, and to the end.
-use Rattle.std.proofs.Common.{◌≡◌, ◌≤◌, ◌<◌, ◌+◌, ◌-◌, ◌*◌, ◌⊎◌, inl, inr, ℕ, zero, suc, Bool, true}
-use Rattle.std.proofs.Common.{false, cond, nat_eq, ◌&&◌, List, [], ◌∷◌, ◌++◌, length, map}
-use Rattle.std.proofs.Common.{append_assoc, zero-mul, one-mul, refl, sym, ap, ◌∙◌, subst, arith}
+use Rattle.std.proofs.Common.{◌≡◌, ◌≤◌, ◌<◌, ◌+◌, ◌-◌, ◌*◌, inl, inr, ℕ, Bool, true, false, cond}
+use Rattle.std.proofs.Common.{nat_eq, ◌&&◌, List, [], ◌∷◌, ◌++◌, map, append_assoc, refl, sym, ap}
+use Rattle.std.proofs.Common.{◌∙◌, subst, arith}
 use Rattle.std.proofs.Math.Nat.{mul-le-mul_right, mul-sub, mul_comm}
-use Rattle.std.specs.Ordering.{is_lt, nat_cmp, ordering_then}
-use Rattle.std.specs.declared.cmp.Ordering.{Ordering}
-use Rattle.std.specs.declared.cmp.Ordering.TheVariants.{Less, Equal, Greater}
-use Rattle.std.specs.Cmp.Lexicographic.{slice_cmp}
+use Rattle.std.proofs.lemmas.Bool.{eqb-true, eq-eqb}
 use Rattle.std.proofs.lemmas.Bool.Decides.{nat_tests}
 use Rattle.std.proofs.lemmas.List.{append-nil}
+use Rattle.sg_base.specs.ByteStrings.{begins}
 use Rattle.sg_base.specs.Lists.{In, Pairs}
 use Rattle.sg_base.specs.declared.limits.TheConstants.{MOST_WEIGHT}
-use Rattle.sg_base.specs.ByteStrings.{begins}
-use Rattle.sg_base.proofs.ListLemmas.{in-append, in-map}
 use Rattle.sg_base.specs.declared.node.Edge.{Edge}
-use Rattle.best_first.specs.Lists.{passing}
-use Rattle.path_desk.specs.Entries.{Queued, queued, entry_cmp}
-use Rattle.path_desk.proofs.OrderLemmas.{entry_lt}
-use Rattle.best_first.proofs.EntryLemmas.{within_start}
-use Rattle.fst_walk.proofs.BeginLemmas.{begins-append}
-use Rattle.best_first.proofs.MemberLemmas.{in-left, in-right}
-use Rattle.best_first.specs.Matches.{Match, covers, Best, Ends}
-use Rattle.best_first.specs.Families.{IsChild, IsFamily}
-use Rattle.best_first.specs.Steps.{IsFree, child, child_entry}
 use Rattle.fst_code.specs.Tails.{Tail, along}
-use Rattle.best_first.proofs.Overs.{no_way, score_at, IsSpread, IsOver}
+use Rattle.fst_walk.proofs.BeginLemmas.{begins-append}
+use Rattle.path_desk.specs.Entries.{Queued}
+use Rattle.best_first.specs.Lists.{passing}
+use Rattle.best_first.specs.Matches.{Match, covers, Best, Ends}
+use Rattle.best_first.specs.Steps.{child}
 use Rattle.best_first.proofs.CoverLemmas.{covers-start, covers-bytes, covers-of, covers-under}
+use Rattle.best_first.proofs.Overs.{no_way, score_at, IsSpread, IsOver}
 
 -- scores
 
@@ -59,12 +51,6 @@ best-over all ways p o = record {
 label_at : (l a : ℕ) (p as' : List ℕ) → begins (p ++ l ∷ []) (p ++ a ∷ as') ≡ nat_eq l a
 label_at l a [] as' = grind (arith, nat_tests)
 label_at l a (q ∷ p) as' = let e = label_at l a p as' in grind (arith, nat_tests)
-
-pub is_number : (m n : ℕ) → nat_eq m n ≡ true → m ≡ n
-is_number m n h = grind (arith, nat_tests)
-
-pub is_same : (m n : ℕ) → m ≡ n → nat_eq m n ≡ true
-is_same m n h = grind (arith, nat_tests)
 
 one_label : (a b : Edge) (edges : List Edge) → Pairs (λ x y. x.label < y.label) edges → In a edges
     → In b edges → a.label ≡ b.label → a ≡ b
@@ -142,7 +128,7 @@ module _ (all : List Match) (ways : ℕ → List Tail) (p : Queued) (edges : Lis
         let b : Edge = w.0 in
         let v : Tail = w.1 in
         let same_label : a.label ≡ b.label =
-        is_number a.label b.label (sym (label_of m a b v.0 w.4) ∙ covers-bytes m (child p a) c) in
+        eqb-true a.label b.label (sym (label_of m a b v.0 w.4) ∙ covers-bytes m (child p a) c) in
         let same : b ≡ a = one_label b a edges d.labels w.2 i (sym same_label) in
         let sum : p.entry.cost + (a.cost + v.1) ≡ p.entry.cost + a.cost + v.1 = omega arith in (
           v,
@@ -160,7 +146,7 @@ module _ (all : List Match) (ways : ℕ → List Tail) (p : Queued) (edges : Lis
   child_covers : (m : Match) (a b : Edge) (more : List ℕ) → p.entry.start ≡ m.start
       → m.bytes ≡ p.bytes ++ (b.label ∷ more) → covers m (child p a) ≡ nat_eq a.label b.label
   child_covers m a b more s e =
-      ap (λ z. z && begins (p.bytes ++ a.label ∷ []) m.bytes) (is_same p.entry.start m.start s)
+      ap (λ z. z && begins (p.bytes ++ a.label ∷ []) m.bytes) (eq-eqb p.entry.start m.start s)
       ∙ label_of m a b more e
 
   pub passing_children : (m : Match) (xs : List Edge) (b : Edge) (more : List ℕ)

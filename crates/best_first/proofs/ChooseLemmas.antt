@@ -1,22 +1,21 @@
 -- The followed path goes on along one arc, and the other arcs become entries to put in.
-use Rattle.std.proofs.Common.{◌≡◌, ◌≤◌, ◌+◌, ℕ, Bool, true, false, cond}
-use Rattle.std.proofs.Common.{inl, inr, List, [], ◌∷◌, length, refl, sym, ap}
-use Rattle.std.proofs.Common.{◌∙◌, subst, arith}
+use Rattle.std.proofs.Common.{◌≡◌, ◌≤◌, ◌+◌, ℕ, Bool, true, false, cond, inl, inr, List, [], ◌∷◌}
+use Rattle.std.proofs.Common.{length, refl, sym, ap, ◌∙◌, subst, arith}
 use Rattle.std.specs.Prelude.{Option, Some, None}
 use Rattle.std.proofs.lemmas.List.{append-nil}
-use Rattle.sg_base.proofs.Orders.{at_most_trans}
 use Rattle.sg_base.specs.ByteStrings.{begins}
-use Rattle.sg_base.proofs.MarkLemmas.{mark_lt, marks_ordered}
 use Rattle.sg_base.specs.Lists.{In, Pairs}
+use Rattle.sg_base.proofs.MarkLemmas.{mark_lt, marks_ordered}
+use Rattle.sg_base.proofs.Orders.{at_most_trans}
 use Rattle.path_desk.specs.Entries.{Queued, mark_of}
 use Rattle.path_desk.proofs.OrderLemmas.{entry_lt}
-use Rattle.best_first.proofs.EntryLemmas.{mark_of-under, stays_before}
+use Rattle.best_first.specs.Families.{IsChild, IsFamily}
 use Rattle.best_first.specs.Lists.{passing, Beside}
 use Rattle.best_first.specs.Matches.{Match, covers, Best, Ends}
 use Rattle.best_first.specs.Progress.{Taken, IsCurrent, ended_of, Left, Progress}
-use Rattle.best_first.specs.Families.{IsChild, IsFamily}
-use Rattle.best_first.proofs.ListLemmas.{passing-in}
 use Rattle.best_first.proofs.CoverLemmas.{not_begun}
+use Rattle.best_first.proofs.EntryLemmas.{mark_of-under, stays_before}
+use Rattle.best_first.proofs.ListLemmas.{passing-in}
 
 abbrev goes_on : Queued → Taken → Taken
 goes_on c t = record { now = c; was = t.was }

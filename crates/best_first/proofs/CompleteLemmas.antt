@@ -1,25 +1,23 @@
 -- Where a search is complete, its rows are the first of all.
-use Rattle.std.proofs.Common.{◌≡◌, ◌≤◌, ◌+◌, ℕ, zero, suc, Bool, true, false, cond}
-use Rattle.std.proofs.Common.{◌⊎◌, inl, inr, List, [], ◌∷◌, length, take, map}
-use Rattle.std.proofs.Common.{refl, sym, ap, ◌∙◌, subst, arith}
-use Rattle.std.specs.Prelude.{Option, None}
+use Rattle.std.proofs.Common.{◌≡◌, ◌≤◌, ◌+◌, ℕ, zero, suc, Bool, true, false, cond, ◌⊎◌, inl, inr}
+use Rattle.std.proofs.Common.{List, [], ◌∷◌, length, take, map, refl, sym, ap, ◌∙◌, subst, arith}
 use Rattle.std.specs.List.{filter}
-use Rattle.sg_base.specs.Lists.{In}
-use Rattle.sg_base.specs.declared.rank.Rank.{Rank}
-use Rattle.sg_base.proofs.Orders.{at_most_trans, below_at_most}
-use Rattle.sg_base.proofs.Orders.{at_most_below}
+use Rattle.std.specs.Prelude.{Option, None}
 use Rattle.sg_base.specs.Cuts.{Mark, row_mark, PlainCut, cut_mark, precedes}
-use Rattle.sg_base.proofs.MarkLemmas.{mark_lt, marks_ordered, precedes-down}
+use Rattle.sg_base.specs.Lists.{In}
 use Rattle.sg_base.specs.Rows.{ranked}
+use Rattle.sg_base.specs.declared.rank.Rank.{Rank}
+use Rattle.sg_base.proofs.MarkLemmas.{mark_lt, marks_ordered, precedes-down}
+use Rattle.sg_base.proofs.Orders.{at_most_trans, below_at_most, at_most_below}
 use Rattle.sg_base.proofs.RankingLemmas.{rank_lt, ranks_ordered}
-use Rattle.best_first.specs.Lists.{passing, Beside}
 use Rattle.path_desk.specs.Entries.{Queued, mark_of}
 use Rattle.collector.proofs.RankingLemmas.{ranked-same}
-use Rattle.best_first.proofs.RowLemmas.{first-late, ranked-within, preceding-more}
-use Rattle.best_first.specs.Matches.{Match, covers, Best, Ends, ranks_of}
 use Rattle.best_first.specs.Listings.{IsListing, mark_of_match}
+use Rattle.best_first.specs.Lists.{passing, Beside}
+use Rattle.best_first.specs.Matches.{Match, covers, Best, Ends, ranks_of}
 use Rattle.best_first.specs.Progress.{Taken, Progress}
 use Rattle.best_first.proofs.MarkLemmas.{rank_lt-mark, mark-under}
+use Rattle.best_first.proofs.RowLemmas.{first-late, ranked-within, preceding-more}
 
 some_at : {X : Type 0} (p : X → Bool) (b : Bool) (x : X) (xs : List X) → p x ≡ b
     → 1 ≤ cond b 1 0 + passing p xs
@@ -129,7 +127,8 @@ module _ (all : List Match) (P : Queued → Type 0) (reached : List Match) (room
       let n = in-ranks_of r all i in
       elim (reached_or_left n.0 n.1) as
       (λ _. In r (ranks_of reached) ⊎ ((m : Match) × In m all × OverLeft m × (r ≡ m.rank))) [
-        | inl k ↦ inl (subst (λ z. In z (ranks_of reached)) (sym n.3) (ranks_of-in n.0 reached n.2 k))
+        | inl k ↦ inl (subst (λ z. In z (ranks_of reached)) (sym n.3)
+            (ranks_of-in n.0 reached n.2 k))
         | inr k ↦ inr (n.0, n.1, k, n.3)
       ]
 

@@ -1,28 +1,27 @@
 -- What is true of a truncation point: the first of the dropped entries, when all paths that were
 -- taken are reached and nothing is queued.
-use Rattle.std.proofs.Common.{◌≡◌, ◌≤◌, ◌<◌, ◌+◌, ℕ, Bool, true, false, cond}
-use Rattle.std.proofs.Common.{not, ◌⊎◌, inl, inr, List, [], ◌∷◌, length, map}
-use Rattle.std.proofs.Common.{refl, sym, ap, ◌∙◌, subst, arith}
-use Rattle.std.specs.Prelude.{Some, None, nat_le}
+use Rattle.std.proofs.Common.{◌≡◌, ◌≤◌, ◌<◌, ◌+◌, ℕ, Bool, true, false, cond, not, ◌⊎◌, inl, inr}
+use Rattle.std.proofs.Common.{List, [], ◌∷◌, length, map, refl, sym, ap, ◌∙◌, subst, arith}
 use Rattle.std.specs.List.{filter}
+use Rattle.std.specs.Prelude.{Some, None, nat_le}
 use Rattle.std.proofs.lemmas.Bool.Decides.{nat_tests}
-use Rattle.sg_base.specs.Lists.{In}
-use Rattle.sg_base.proofs.Orders.{at_most_trans}
-use Rattle.sg_base.specs.Cuts.{mark}
 use Rattle.sg_base.specs.ByteStrings.{begins}
-use Rattle.sg_base.proofs.MarkLemmas.{mark_lt, marks_ordered}
-use Rattle.best_first.specs.Lists.{passing}
-use Rattle.path_desk.specs.Entries.{Queued, mark_of, key_part}
-use Rattle.best_first.proofs.EntryLemmas.{mark_of-below, begun_rest, begins-key_part}
-use Rattle.best_first.specs.Matches.{Match, covers, Best, Ends}
-use Rattle.best_first.specs.Listings.{IsListing, mark_of_match}
-use Rattle.best_first.specs.Progress.{Taken, Progress}
-use Rattle.best_first.proofs.ListLemmas.{passing-in}
-use Rattle.best_first.proofs.CoverLemmas.{covers-start, covers-bytes}
-use Rattle.best_first.proofs.MarkLemmas.{score-at_most}
-use Rattle.best_first.proofs.CompleteLemmas.{beside-find}
+use Rattle.sg_base.specs.Cuts.{mark}
+use Rattle.sg_base.specs.Lists.{In}
 use Rattle.sg_base.proofs.ListLemmas.{in-map, in-filter, pairs-map}
+use Rattle.sg_base.proofs.MarkLemmas.{mark_lt, marks_ordered}
+use Rattle.sg_base.proofs.Orders.{at_most_trans}
+use Rattle.path_desk.specs.Entries.{Queued, mark_of, key_part}
 use Rattle.collector.proofs.ListLemmas.{map-length}
+use Rattle.best_first.specs.Listings.{IsListing, mark_of_match}
+use Rattle.best_first.specs.Lists.{passing}
+use Rattle.best_first.specs.Matches.{Match, covers, Best, Ends}
+use Rattle.best_first.specs.Progress.{Taken, Progress}
+use Rattle.best_first.proofs.CompleteLemmas.{beside-find}
+use Rattle.best_first.proofs.CoverLemmas.{covers-start, covers-bytes}
+use Rattle.best_first.proofs.EntryLemmas.{mark_of-below, begun_rest, begins-key_part}
+use Rattle.best_first.proofs.ListLemmas.{passing-in}
+use Rattle.best_first.proofs.MarkLemmas.{score-at_most}
 use Rattle.best_first.proofs.SpreadLemmas.{spread, pairs-filter, distinct_below, length-parts}
 use Rattle.best_first.proofs.SpreadLemmas.{passing-filter}
 
@@ -128,10 +127,6 @@ module _ (all : List Match) (P : Queued → Type 0) (reached : List Match) (room
   start_below : (e : Queued) → Best all e → e.entry.start < starts
   start_below e b = subst (λ n. n < starts) (sym (covers-start b.met.0 e b.met.2))
       (l.within b.met.0 b.met.1)
-
-  not_false : (b : Bool) → not b ≡ true → b ≡ false
-  not_false true h = cc
-  not_false false h = refl
 
   not_not : (b : Bool) → not (not b) ≡ true → b ≡ true
   not_not true h = refl

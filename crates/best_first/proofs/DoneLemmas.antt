@@ -1,39 +1,36 @@
 -- A search is done before its queue is empty: its rows are the first of all.
-use Rattle.std.proofs.Common.{◌≡◌, ◌≤◌, ◌<◌, ◌-◌, ◌⊎◌, inl, inr, ℕ, zero, suc, Bool, true}
-use Rattle.std.proofs.Common.{false, cond, ◌&&◌, List, [], ◌∷◌, length}
-use Rattle.std.proofs.Common.{take, refl, sym, ap, ◌∙◌, subst, arith}
-use Rattle.std.specs.Prelude.{Option, Some, None, slice_get, slice_index_or, nat_lt}
+use Rattle.std.proofs.Common.{◌≡◌, ◌≤◌, ◌<◌, ◌-◌, ◌⊎◌, inl, inr, ℕ, zero, suc, Bool, true, false}
+use Rattle.std.proofs.Common.{cond, List, [], ◌∷◌, length, take, refl, sym, ap, ◌∙◌, subst, arith}
+use Rattle.std.specs.Cmp.Lexicographic.{slice_cmp}
 use Rattle.std.specs.Ordering.{is_lt, nat_cmp, ordering_then}
+use Rattle.std.specs.Prelude.{Option, Some, None, slice_get, slice_index_or, nat_lt}
 use Rattle.std.specs.declared.cmp.Ordering.{Ordering}
 use Rattle.std.specs.declared.cmp.Ordering.TheVariants.{Less, Equal, Greater}
-use Rattle.std.specs.Cmp.Lexicographic.{slice_cmp}
-use Rattle.std.proofs.lemmas.Bool.{ltb-true, ltb-false}
-use Rattle.std.proofs.lemmas.List.{append-nil}
+use Rattle.std.proofs.lemmas.Bool.{false_from_ne_true, and_parts, ltb-true, ltb-false}
+use Rattle.std.proofs.lemmas.List.{length-take-le, append-nil}
 use Rattle.sg_base.specs.Cuts.{Mark, mark_cmp, row_mark}
 use Rattle.sg_base.specs.Lists.{In, Pairs}
-use Rattle.sg_base.specs.declared.rank.Rank.{Rank}
-use Rattle.sg_base.proofs.Orders.{at_most_itself, weaken, below_at_most}
-use Rattle.sg_base.proofs.MarkLemmas.{mark_lt, marks_ordered}
 use Rattle.sg_base.specs.Rows.{ranked}
+use Rattle.sg_base.specs.declared.rank.Rank.{Rank}
+use Rattle.sg_base.proofs.MarkLemmas.{mark_lt, marks_ordered}
+use Rattle.sg_base.proofs.Orders.{at_most_itself, weaken, below_at_most}
 use Rattle.sg_base.proofs.RankingLemmas.{rank_lt, ranks_ordered, Ascending}
-use Rattle.path_desk.specs.Entries.{Queued, queued, mark_of, rest_part}
 use Rattle.path_desk.specs.Desks.{PlainDesk, is_settled, is_before, taken_room}
+use Rattle.path_desk.specs.Entries.{Queued, queued, mark_of, rest_part}
 use Rattle.path_desk.proofs.OrderLemmas.{entry_lt}
-use Rattle.best_first.proofs.EntryLemmas.{mark_of-below, stays_before, within_start, begun_rest}
-use Rattle.best_first.specs.Ends.{last_row, is_done}
+use Rattle.collector.proofs.ListLemmas.{in-take, pairs-take}
 use Rattle.collector.proofs.RankingLemmas.{is_ranking-ranked}
-use Rattle.best_first.proofs.RowLemmas.{in-take}
-use Rattle.collector.proofs.ListLemmas.{pairs-take}
-use Rattle.best_first.specs.Matches.{Match, covers, Best, Ends, ranks_of}
+use Rattle.best_first.specs.Ends.{last_row, is_done}
 use Rattle.best_first.specs.Listings.{IsListing}
+use Rattle.best_first.specs.Matches.{Match, covers, Best, Ends, ranks_of}
 use Rattle.best_first.specs.Progress.{Taken, IsFirst, Left, Progress}
 use Rattle.best_first.specs.Segments.{Between}
+use Rattle.best_first.proofs.CompleteLemmas.{complete-late, complete-settled, in-ranks_of}
+use Rattle.best_first.proofs.CompleteLemmas.{beside-back}
+use Rattle.best_first.proofs.CoverLemmas.{covers-start, covers-bytes, not_begun}
+use Rattle.best_first.proofs.EntryLemmas.{mark_of-below, stays_before, within_start, begun_rest}
 use Rattle.best_first.proofs.ListLemmas.{passing-in}
 use Rattle.best_first.proofs.SearchLemmas.{index-in}
-use Rattle.best_first.proofs.CoverLemmas.{covers-start, covers-bytes, not_begun}
-use Rattle.best_first.proofs.CompleteLemmas.{complete-late}
-use Rattle.best_first.proofs.CompleteLemmas.{complete-settled, in-ranks_of}
-use Rattle.best_first.proofs.CompleteLemmas.{beside-back}
 
 -- what holds of the desk between two paths
 pub between-progress : (all : List Match) (P : Queued → Type 0) (reached : List Match) (k : ℕ)
@@ -68,14 +65,10 @@ front_lt Less t r h = refl
 front_lt Equal t r h = cc
 front_lt Greater t r h = cc
 
-no_true : (c : Bool) → (c ≡ true → ⊥) → c ≡ false
-no_true true f = absurd (f refl)
-no_true false f = refl
-
 -- an entry that isn't after another has no later mark
 pub mark_at_most : (x y : Queued) → entry_lt x y ≡ false → mark_lt (mark_of x) (mark_of y) ≡ false
 mark_at_most x y h =
-    no_true (mark_lt (mark_of x) (mark_of y)) (λ e.
+    false_from_ne_true (mark_lt (mark_of x) (mark_of y)) (λ e.
     let up = front_lt (mark_cmp (mark_of x) (mark_of y)) (nat_cmp x.entry.start y.entry.start)
     (slice_cmp nat_cmp (rest_part x.bytes) (rest_part y.bytes)) e in
     let never : true ≡ false = sym up ∙ h in cc)
@@ -110,11 +103,6 @@ get_index [] n r d e = cc
 get_index (x ∷ xs) zero r d e = let t : Some r ≡ Some x = sym e in (let q : r ≡ x = cc in q)
 get_index (x ∷ xs) (suc n) r d e = get_index xs n r d e
 
-take_length : {X : Type 0} (k : ℕ) (xs : List X) → k ≤ length xs → length (take k xs) ≡ k
-take_length zero xs h = refl
-take_length (suc k) [] h = absurd (omega arith)
-take_length (suc k) (x ∷ xs) h = let r = take_length k xs (omega arith) in omega (arith, r)
-
 pub taken_length : {X : Type 0} (k : ℕ) (xs : List X) → k ≤ length (take k xs) → k ≤ length xs
 taken_length zero xs h = omega arith
 taken_length (suc k) [] h = absurd (omega arith)
@@ -146,14 +134,10 @@ module _ (all : List Match) (P : Queued → Type 0) (reached : List Match) (star
         λ x i. subst (λ z. rank_lt z x ≡ false)
             (sym (get_index (take k (ranked (ranks_of reached))) (k - 1) w w at_last))
             (last-greatest (take k (ranked (ranks_of reached))) k x w ascending
-            (take_length k (ranked (ranks_of reached)) long) i),
+            (length-take-le k (ranked (ranks_of reached)) long) i),
       )
 
   -- settled
-
-  both : (c e : Bool) → (c && e) ≡ true → (c ≡ true) × (e ≡ true)
-  both true e h = (refl, h)
-  both false e h = cc
 
   settled_queue : (m : Mark) (ws : List Queued) → Pairs (λ a c. entry_lt a c ≡ true) ws
       → is_before m (slice_get ws 0) ≡ true → (e : Queued) → In e ws → mark_lt m (mark_of e) ≡ true
@@ -171,9 +155,9 @@ module _ (all : List Match) (P : Queued → Type 0) (reached : List Match) (star
   all_settled : (m : Mark) → is_settled d m ≡ true → (e : Queued) → In e d.waiting ⊎ In e s.dropped
       → mark_lt m (mark_of e) ≡ true
   all_settled m h e (inl i) = settled_queue m d.waiting s.rising
-      (both (is_before m (slice_get d.waiting 0)) (is_before m d.dropped) h).0 e i
+      (and_parts (is_before m (slice_get d.waiting 0)) (is_before m d.dropped) h).0 e i
   all_settled m h e (inr i) = settled_dropped m d.dropped s.dropped s.is_first
-      (both (is_before m (slice_get d.waiting 0)) (is_before m d.dropped) h).1 e i
+      (and_parts (is_before m (slice_get d.waiting 0)) (is_before m d.dropped) h).1 e i
 
   pub done-settled : (w : Rank) → last_row k rows ≡ Some w → is_settled d (row_mark w) ≡ true
       → rows ≡ take k (ranked (ranks_of all))

@@ -1,39 +1,31 @@
 -- The queue is empty: what the rows are, and what is true of the truncation point.
-use Rattle.std.proofs.Common.{eqb-true}
-use Rattle.std.proofs.Common.{◌≡◌, ◌≤◌, ◌<◌, ◌-◌, ◌⊎◌, inl, inr, ℕ, zero, suc, Bool, true}
-use Rattle.std.proofs.Common.{false, cond, nat_eq, ◌&&◌, List, [], ◌∷◌, length}
-use Rattle.std.proofs.Common.{take, refl, sym, ap, ◌∙◌, subst, arith}
-use Rattle.std.specs.Prelude.{Option, Some, None, slice_get}
-use Rattle.std.specs.Prelude.{option_map}
+use Rattle.std.proofs.Common.{eqb-true, ◌≡◌, ◌≤◌, ◌<◌, ◌-◌, ◌⊎◌, inl, inr, ℕ, zero, suc, Bool, true}
+use Rattle.std.proofs.Common.{false, cond, nat_eq, ◌&&◌, List, [], ◌∷◌, length, take, refl, sym, ap}
+use Rattle.std.proofs.Common.{◌∙◌, subst, arith}
 use Rattle.std.specs.List.{filter}
+use Rattle.std.specs.Prelude.{Option, Some, None, slice_get, option_map}
+use Rattle.std.proofs.lemmas.Bool.{and_parts}
+use Rattle.sg_base.specs.ByteStrings.{begins, lacks}
 use Rattle.sg_base.specs.Cuts.{PlainCut, precedes, cut_mark, row_mark}
 use Rattle.sg_base.specs.Lists.{In}
-use Rattle.sg_base.specs.declared.rank.Rank.{Rank}
-use Rattle.sg_base.specs.ByteStrings.{begins, lacks}
-use Rattle.sg_paths.proofs.ByteLemmas.{lacks_parts}
-use Rattle.std.proofs.lemmas.Bool.{and_parts}
-use Rattle.sg_base.proofs.MarkLemmas.{mark_lt, precedes-down}
 use Rattle.sg_base.specs.Rows.{ranked}
+use Rattle.sg_base.specs.declared.rank.Rank.{Rank}
+use Rattle.sg_base.proofs.MarkLemmas.{mark_lt, precedes-down}
+use Rattle.sg_paths.proofs.ByteLemmas.{lacks_parts}
+use Rattle.sg_answers.proofs.TakingLemmas.{taken_at_most, filter_at_most}
+use Rattle.path_desk.specs.Desks.{PlainDesk, is_before, cut_at}
 use Rattle.path_desk.specs.Entries.{Queued, mark_of, key_part}
-use Rattle.path_desk.specs.Desks.{PlainDesk, is_before}
-use Rattle.path_desk.specs.Desks.{cut_at}
-use Rattle.best_first.specs.Ends.{last_row, is_done, IsCutShort}
 use Rattle.collector.proofs.RankingLemmas.{is_ranking-ranked}
-use Rattle.best_first.proofs.RowLemmas.{filter-take, fewer, length-filter}
-use Rattle.best_first.specs.Matches.{Match, ranks_of}
+use Rattle.best_first.specs.Ends.{last_row, is_done, IsCutShort}
 use Rattle.best_first.specs.Listings.{IsListing}
+use Rattle.best_first.specs.Matches.{Match, ranks_of}
 use Rattle.best_first.specs.Progress.{IsFirst, Progress}
 use Rattle.best_first.specs.Segments.{Between}
+use Rattle.best_first.proofs.CompleteLemmas.{complete-empty, preceding-reached}
+use Rattle.best_first.proofs.CutLemmas.{crowded, met, upto}
 use Rattle.best_first.proofs.DoneLemmas.{between-progress, mark_at_most, last_row-some}
 use Rattle.best_first.proofs.DoneLemmas.{last_row-none}
-use Rattle.best_first.proofs.CompleteLemmas.{complete-empty}
-use Rattle.best_first.proofs.CompleteLemmas.{preceding-reached}
-use Rattle.best_first.proofs.CutLemmas.{crowded, met, upto}
-
-length-take : {X : Type 0} (k : ℕ) (xs : List X) → length (take k xs) ≤ k
-length-take zero xs = omega arith
-length-take (suc k) [] = omega arith
-length-take (suc k) (x ∷ xs) = let r = length-take k xs in omega (arith, r)
+use Rattle.best_first.proofs.RowLemmas.{filter-take, fewer}
 
 module _ (all : List Match) (P : Queued → Type 0) (reached : List Match) (starts k : ℕ)
     (d : PlainDesk) (rows : List Rank)
@@ -102,13 +94,15 @@ module _ (all : List Match) (P : Queued → Type 0) (reached : List Match) (star
           (λ e. last_row-none k rows e some)
 
       rows_length : length rows ≤ k
-      rows_length = let n : length rows ≡ length (take k (ranked (ranks_of reached))) =
-          ap length b.kept in let m = length-take k (ranked (ranks_of reached)) in omega (arith, n, m)
+      rows_length =
+          let n : length rows ≡ length (take k (ranked (ranks_of reached))) = ap length b.kept in
+          let m = taken_at_most k (ranked (ranks_of reached)) in
+          omega (arith, n, m)
 
       few_at : Fails → length (filter pre rows) < k
       few_at (inl h) = let x = fewer pre h.0 rows h.1 h.2 in let y =
           rows_length in omega (arith, x, y)
-      few_at (inr h) = let x = length-filter pre rows in omega (arith, x, h)
+      few_at (inr h) = let x = filter_at_most pre rows in omega (arith, x, h)
 
       front_at : Fails → filter pre (take k (ranked (ranks_of reached)))
           ≡ filter pre (ranked (ranks_of reached))
@@ -126,8 +120,8 @@ module _ (all : List Match) (P : Queued → Type 0) (reached : List Match) (star
       progress_at_end = subst (λ o. Progress all P reached d.room [] [] d.reached o None) dropped
           (subst (λ ws. Progress all P reached d.room [] ws d.reached d.dropped None) empty s)
 
-      pub end-cut : (prefix : List ℕ) → begins prefix (key_part f.bytes) ≡ true → (one : Bool) → 1 ≤ k
-          → is_done one d (last_row k rows) ≡ false
+      pub end-cut : (prefix : List ℕ) → begins prefix (key_part f.bytes) ≡ true → (one : Bool)
+          → 1 ≤ k → is_done one d (last_row k rows) ≡ false
           → IsCutShort all prefix starts k d.room generation (filter pre rows) cut
       end-cut prefix in_query one some h = record {
         in_query = in_query;

@@ -1,19 +1,19 @@
 -- Entries of one start, entries under one another, and what marks say of entries.
-use Rattle.std.proofs.Common.{drop}
-use Rattle.std.proofs.Common.{◌≡◌, ◌≤◌, ℕ, Bool, true, false, cond, nat_eq}
-use Rattle.std.proofs.Common.{◌&&◌, List, [], ◌∷◌, ◌++◌, length, refl, sym, ap, ◌∙◌, arith}
+use Rattle.std.proofs.Common.{drop, ◌≡◌, ◌≤◌, ℕ, Bool, true, false, cond, nat_eq, ◌&&◌, List, []}
+use Rattle.std.proofs.Common.{◌∷◌, ◌++◌, length, refl, sym, ap, ◌∙◌, arith}
+use Rattle.std.specs.Cmp.Lexicographic.{slice_cmp}
+use Rattle.std.specs.FinMap.{nat_cmp-IsAntisymmetric, slice_cmp-IsAntisymmetric}
+use Rattle.std.specs.Ordering.{nat_cmp, ordering_then, ordering_reverse, is_lt, is_le}
 use Rattle.std.specs.declared.cmp.Ordering.{Ordering}
 use Rattle.std.specs.declared.cmp.Ordering.TheVariants.{Less, Equal, Greater}
-use Rattle.std.specs.Cmp.Lexicographic.{slice_cmp}
-use Rattle.std.specs.Ordering.{nat_cmp, ordering_then, ordering_reverse, is_lt, is_le}
-use Rattle.std.specs.FinMap.{nat_cmp-IsAntisymmetric, slice_cmp-IsAntisymmetric}
+use Rattle.std.proofs.lemmas.Bool.{eq-eqb}
 use Rattle.std.proofs.lemmas.Bool.Decides.{nat_tests}
 use Rattle.sg_base.specs.ByteStrings.{begins}
 use Rattle.sg_base.specs.Cuts.{mark, mark_cmp, mark_cmp_total}
 use Rattle.sg_base.proofs.MarkLemmas.{mark_lt}
+use Rattle.fst_walk.proofs.BeginLemmas.{begins_split}
 use Rattle.path_desk.specs.Entries.{Queued, key_part, rest_part, entry_cmp, entry_cmp_total}
 use Rattle.path_desk.specs.Entries.{mark_of}
-use Rattle.fst_walk.proofs.BeginLemmas.{begins_split}
 use Rattle.path_desk.proofs.Lex.{split_same, key_grows}
 use Rattle.path_desk.proofs.OrderLemmas.{entry_lt, ties}
 
@@ -179,9 +179,6 @@ tied_entries a b p q =
 pub begun_rest : (a c : List ℕ) → begins a c ≡ true → (us : List ℕ) × (c ≡ a ++ us)
 begun_rest a c h = (drop (length a) c, begins_split a c h)
 
-itself : (q : ℕ) → nat_eq q q ≡ true
-itself q = grind (arith, nat_tests)
-
 -- key bytes of what lies under begin with the key bytes
 pub begins-key_part : (p us : List ℕ) → begins (key_part p) (key_part (p ++ us)) ≡ true
 begins-key_part [] us = refl
@@ -190,4 +187,4 @@ begins-key_part (x ∷ p) us = at (nat_eq x 0) (begins-key_part p us)
     at : (z : Bool) → begins (key_part p) (key_part (p ++ us)) ≡ true
         → begins (cond z [] (x ∷ key_part p)) (cond z [] (x ∷ key_part (p ++ us))) ≡ true
     at true h = refl
-    at false h = let e = itself x in rw e h
+    at false h = let e = eq-eqb x x refl in rw e h

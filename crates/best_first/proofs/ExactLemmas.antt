@@ -1,30 +1,27 @@
 -- With one start a search is truncated exactly where the next path after the room is needed, and at
 -- that path.
-use Rattle.std.proofs.Common.{◌≡◌, ◌≤◌, ◌<◌, ◌⊎◌, inl, inr, ℕ, zero, suc, Bool, true, false}
-use Rattle.std.proofs.Common.{List, [], ◌∷◌, ◌++◌, length, take, drop, refl, sym}
-use Rattle.std.proofs.Common.{ap, ◌∙◌, subst, arith}
+use Rattle.std.proofs.Common.{◌≡◌, ◌≤◌, ◌<◌, ◌⊎◌, inl, inr, ℕ, zero, suc, Bool, true, false, List}
+use Rattle.std.proofs.Common.{[], ◌∷◌, ◌++◌, length, take, drop, refl, sym, ap, ◌∙◌, subst, arith}
 use Rattle.std.specs.Prelude.{Option, Some, None}
 use Rattle.sg_base.specs.Cuts.{PlainCut}
 use Rattle.sg_base.specs.Lists.{In}
-use Rattle.sg_base.specs.declared.rank.Rank.{Rank}
 use Rattle.sg_base.specs.Rows.{ranked}
-use Rattle.best_first.specs.Ends.{last_row, is_done}
-use Rattle.path_desk.specs.Entries.{Queued}
+use Rattle.sg_base.specs.declared.rank.Rank.{Rank}
 use Rattle.path_desk.specs.Desks.{PlainDesk, cut_at}
-use Rattle.best_first.proofs.RowLemmas.{ranked-within, ranked-more}
-use Rattle.best_first.specs.Matches.{Match, ranks_of}
+use Rattle.path_desk.specs.Entries.{Queued}
+use Rattle.best_first.specs.Ends.{last_row, is_done}
+use Rattle.best_first.specs.Exact.{IsInOrder, IsExact}
 use Rattle.best_first.specs.Listings.{IsListing}
+use Rattle.best_first.specs.Matches.{Match, ranks_of}
 use Rattle.best_first.specs.Progress.{IsFirst, Progress}
 use Rattle.best_first.specs.Segments.{Between}
-use Rattle.best_first.specs.Exact.{IsInOrder, IsExact}
-use Rattle.best_first.proofs.CompleteLemmas.{reached_or_left}
-use Rattle.best_first.proofs.CompleteLemmas.{in-ranks_of, ranks_of-in}
-use Rattle.best_first.proofs.DoneLemmas.{between-progress, last_row-none}
-use Rattle.best_first.proofs.DoneLemmas.{last_row-some, taken_length}
-use Rattle.best_first.proofs.PrefixLemmas.{never_before_itself}
-use Rattle.best_first.proofs.PrefixLemmas.{in_drop, take_before_drop}
-use Rattle.best_first.proofs.PrefixLemmas.{take_of_append, in_take_more}
+use Rattle.best_first.proofs.CompleteLemmas.{reached_or_left, in-ranks_of, ranks_of-in}
+use Rattle.best_first.proofs.DoneLemmas.{between-progress, last_row-none, last_row-some}
+use Rattle.best_first.proofs.DoneLemmas.{taken_length}
 use Rattle.best_first.proofs.OrderLemmas.{reached_is, reached_fits}
+use Rattle.best_first.proofs.PrefixLemmas.{never_before_itself, in_drop, take_before_drop}
+use Rattle.best_first.proofs.PrefixLemmas.{take_of_append, in_take_more}
+use Rattle.best_first.proofs.RowLemmas.{ranked-within, ranked-more}
 use Rattle.best_first.proofs.ShortLemmas.{exact-cut}
 
 module _ (all order : List Match) (P : Queued → Type 0) (reached : List Match) (starts k : ℕ)

@@ -1,33 +1,31 @@
 -- The entries behind the arcs of a node share what is under the entry over it, in order.
-use Rattle.std.proofs.Common.{◌≡◌, ◌≤◌, ◌<◌, ◌+◌, ◌-◌, ◌*◌, ◌⊎◌, inl, inr, ℕ, zero, suc, Bool, true}
-use Rattle.std.proofs.Common.{false, cond, nat_eq, ◌&&◌, List, [], ◌∷◌, ◌++◌, length, map}
-use Rattle.std.proofs.Common.{append_assoc, zero-mul, one-mul, refl, sym, ap, ◌∙◌, subst, arith}
-use Rattle.std.proofs.Math.Nat.{mul-le-mul_right, mul-sub, mul_comm}
+use Rattle.std.proofs.Common.{◌≡◌, ◌≤◌, ◌<◌, ◌+◌, ◌-◌, ◌*◌, inl, inr, ℕ, zero, suc, Bool, true}
+use Rattle.std.proofs.Common.{false, cond, nat_eq, List, [], ◌∷◌, ◌++◌, map, zero-mul, one-mul}
+use Rattle.std.proofs.Common.{refl, sym, ap, ◌∙◌, subst, arith}
+use Rattle.std.specs.Cmp.Lexicographic.{slice_cmp}
 use Rattle.std.specs.Ordering.{is_lt, nat_cmp, ordering_then}
 use Rattle.std.specs.declared.cmp.Ordering.{Ordering}
-use Rattle.std.specs.declared.cmp.Ordering.TheVariants.{Less, Equal, Greater}
-use Rattle.std.specs.Cmp.Lexicographic.{slice_cmp}
+use Rattle.std.specs.declared.cmp.Ordering.TheVariants.{Less, Equal}
+use Rattle.std.proofs.Math.Nat.{mul-le-mul_right}
+use Rattle.std.proofs.lemmas.Bool.{eqb-true, eq-eqb}
 use Rattle.std.proofs.lemmas.Bool.Decides.{nat_tests}
-use Rattle.std.proofs.lemmas.List.{append-nil}
 use Rattle.sg_base.specs.Lists.{In, Pairs}
 use Rattle.sg_base.specs.declared.limits.TheConstants.{MOST_WEIGHT}
-use Rattle.sg_base.specs.ByteStrings.{begins}
-use Rattle.sg_base.proofs.ListLemmas.{in-append, in-map}
 use Rattle.sg_base.specs.declared.node.Edge.{Edge}
-use Rattle.best_first.specs.Lists.{passing}
-use Rattle.path_desk.specs.Entries.{Queued, queued, entry_cmp}
+use Rattle.sg_base.proofs.ListLemmas.{in-append, in-map}
+use Rattle.fst_code.specs.Tails.{Tail}
+use Rattle.path_desk.specs.Entries.{Queued}
 use Rattle.path_desk.proofs.OrderLemmas.{entry_lt}
-use Rattle.best_first.proofs.EntryLemmas.{within_start}
-use Rattle.fst_walk.proofs.BeginLemmas.{begins-append}
-use Rattle.best_first.proofs.MemberLemmas.{in-left, in-right}
-use Rattle.best_first.specs.Matches.{Match, covers, Best, Ends}
 use Rattle.best_first.specs.Families.{IsChild, IsFamily}
-use Rattle.best_first.specs.Steps.{IsFree, child, child_entry}
-use Rattle.fst_code.specs.Tails.{Tail, along}
-use Rattle.best_first.proofs.Overs.{no_way, score_at, IsSpread, IsOver}
-use Rattle.best_first.proofs.CoverLemmas.{covers-start, covers-bytes, covers-of, covers-under}
-use Rattle.best_first.proofs.ChildLemmas.{is_number, is_same, by_arc, cost_within, passing_children}
-use Rattle.best_first.proofs.ChildLemmas.{no_children, over-child, best-over}
+use Rattle.best_first.specs.Lists.{passing}
+use Rattle.best_first.specs.Matches.{Match, covers, Best}
+use Rattle.best_first.specs.Steps.{IsFree, child}
+use Rattle.best_first.proofs.ChildLemmas.{by_arc, cost_within, passing_children, no_children}
+use Rattle.best_first.proofs.ChildLemmas.{over-child, best-over}
+use Rattle.best_first.proofs.CoverLemmas.{covers-start}
+use Rattle.best_first.proofs.EntryLemmas.{within_start}
+use Rattle.best_first.proofs.MemberLemmas.{in-left, in-right}
+use Rattle.best_first.proofs.Overs.{IsSpread, IsOver}
 
 none_later : (x : Edge) (xs : List Edge) (l : ℕ) → ((y : Edge) → In y xs → x.label < y.label)
     → l ≤ x.label → passing (λ (u : Edge). nat_eq u.label l) xs ≡ 0
@@ -38,7 +36,7 @@ none_later x (y ∷ ys) l up e =
     at_y : (c : Bool) → nat_eq y.label l ≡ c → passing (λ (u : Edge). nat_eq u.label l) ys ≡ 0
         → cond c 1 0 + passing (λ (u : Edge). nat_eq u.label l) ys ≡ 0
     at_y true q h = let low : x.label < y.label = up y (inl refl) in let same : y.label ≡ l =
-        is_number y.label l q in absurd (omega (arith, low, same, e))
+        eqb-true y.label l q in absurd (omega (arith, low, same, e))
     at_y false q h = omega (arith, h)
 
 -- one of rising labels is each of them once
@@ -49,7 +47,7 @@ one_of_labels b (x ∷ xs) up (inl i) =
     let same : x.label ≡ b.label = ap (λ (z : Edge). z.label) (sym i) in
     let n = none_later x xs b.label up.0 (omega (arith, same)) in
     ap (λ z. cond z 1 0 + passing (λ (u : Edge). nat_eq u.label b.label) xs)
-    (is_same x.label b.label same) ∙ (omega (arith, n))
+    (eq-eqb x.label b.label same) ∙ (omega (arith, n))
 one_of_labels b (x ∷ xs) up (inr i) =
     let low : x.label < b.label = up.0 b i in
     let h = one_of_labels b xs up.1 i in
@@ -119,7 +117,8 @@ module _ (all : List Match) (ways : ℕ → List Tail) (p : Queued) (edges us vs
     dear : (u : Edge) → In u edges → (u.cost ≡ 0 → ⊥) → (child p u).entry.score < p.entry.score
     dear u i n =
         let low : 1 ≤ u.cost = positive u.cost n in
-        let more : 1 * p.entry.boost ≤ u.cost * p.entry.boost = mul-le-mul_right p.entry.boost low in
+        let more : 1 * p.entry.boost ≤ u.cost * p.entry.boost =
+        mul-le-mul_right p.entry.boost low in
         let w = cost_within all ways p edges o d u i in
         let most : u.cost * p.entry.boost ≤ (MOST_WEIGHT - p.entry.cost) * p.entry.boost =
         mul-le-mul_right p.entry.boost
@@ -136,7 +135,8 @@ module _ (all : List Match) (ways : ℕ → List Tail) (p : Queued) (edges us vs
     less_score : (x y : ℕ) (k : Ordering) → y < x → is_lt (ordering_then (nat_cmp y x) k) ≡ true
     less_score x y k h = let e : nat_cmp y x ≡ Less = grind (arith, nat_tests) in rw e refl
 
-    before_dear : (u : Edge) → In u edges → (u.cost ≡ 0 → ⊥) → entry_lt (child p a) (child p u) ≡ true
+    before_dear : (u : Edge) → In u edges → (u.cost ≡ 0 → ⊥)
+        → entry_lt (child p a) (child p u) ≡ true
     before_dear u i n =
         let low : (child p u).entry.score < (child p a).entry.score =
         subst (λ z. (child p u).entry.score < z) (sym free_score) (dear u i n) in
@@ -166,15 +166,16 @@ module _ (all : List Match) (ways : ℕ → List Tail) (p : Queued) (edges us vs
     before_equal u e h =
         let s = same_cmp (child p u).entry.score (child p a).entry.score (equal_score u e) in
         ap is_lt (within_start (child p a) (child p u) refl)
-        ∙ ap (λ c. is_lt (ordering_then c (slice_cmp nat_cmp (child p a).bytes (child p u).bytes))) s
+        ∙ ap (λ c. is_lt (ordering_then c
+        (slice_cmp nat_cmp (child p a).bytes (child p u).bytes))) s
         ∙ less_bytes p.bytes a.label u.label h
 
     behind_free : (u : Edge) → In u vs → (c : Bool) → nat_eq u.cost 0 ≡ c
         → entry_lt (child p a) (child p u) ≡ true
-    behind_free u i true e = before_equal u (is_number u.cost 0 e)
+    behind_free u i true e = before_equal u (eqb-true u.cost 0 e)
         (behind_label us (subst (Pairs (λ x y. x.label < y.label)) f.is d.labels) u i)
     behind_free u i false e = before_dear u (in_vs u i)
-        (λ q. let never : true ≡ false = sym (is_same u.cost 0 q) ∙ e in cc)
+        (λ q. let never : true ≡ false = sym (eq-eqb u.cost 0 q) ∙ e in cc)
 
     sibling_at : (e : Queued) → In e (map (child p) us ++ map (child p) vs)
         → (u : Edge) × In u edges × (e ≡ child p u) × (entry_lt (child p a) (child p u) ≡ true)

@@ -20,8 +20,7 @@ use Rattle.fst_walk.specs.Starts.{start_contexts}
 use Rattle.fst_walk.proofs.AscendingLemmas.{Ascends, less_itself}
 use Rattle.fst_walk.proofs.BeginLemmas.{begins-cancel}
 use Rattle.fst_walk.proofs.BoolLemmas.{clash}
-use Rattle.fst_walk.proofs.ContextLemmas.{start_from, start_parts, member_no_end}
-use Rattle.fst_walk.proofs.ContextLemmas.{Ascends-starts}
+use Rattle.fst_walk.proofs.ContextLemmas.{start_from, start_parts, member_no_end, Ascends-starts}
 use Rattle.best_first.specs.Parts.{AreDocuments, IsMapping}
 use Rattle.best_first.specs.PathMatches.{tail_of, bytes_of, setting_of, seq_at, no_document}
 use Rattle.best_first.proofs.Grounds.{IsGround}

@@ -1,6 +1,6 @@
 -- A path's document and suggestion are there, and its key is the suggestion's.
-use Rattle.std.proofs.Common.{◌≡◌, ◌≤◌, ◌<◌, ◌+◌, ◌⊎◌, inl, inr, ℕ, zero, suc, List, [], ◌∷◌, map}
-use Rattle.std.proofs.Common.{length, get_or, refl, sym, ap, ◌∙◌, subst, arith}
+use Rattle.std.proofs.Common.{◌≡◌, ◌≤◌, ◌<◌, ◌+◌, inl, inr, ℕ, zero, suc, List, [], ◌∷◌, map}
+use Rattle.std.proofs.Common.{length, get_or, sym, ap, subst, arith}
 use Rattle.sg_base.specs.Lists.{In}
 use Rattle.sg_base.proofs.ListLemmas.{in-append, in-map, in-filter}
 use Rattle.sg_paths.specs.AllPaths.{Entry, FullPath, entry_of, path_entries, all_paths}

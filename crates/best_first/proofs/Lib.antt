@@ -18,6 +18,7 @@ pub mod PrefixLemmas
 pub mod OrderLemmas
 pub mod ShortLemmas
 pub mod ExactLemmas
+pub mod ClosingLemmas
 pub mod ChildLemmas
 pub mod FamilyLemmas
 pub mod Grounds
@@ -42,3 +43,4 @@ pub mod PathOrderLemmas
 pub mod LiveLemmas
 pub mod SpentLemmas
 pub mod ReportLemmas
+pub mod WholeLemmas

@@ -1,12 +1,11 @@
 -- Members and counts.
-use Rattle.std.proofs.Common.{◌≡◌, ◌≤◌, ◌+◌, ℕ, suc, Bool, true, false, cond}
-use Rattle.std.proofs.Common.{◌⊎◌, inl, inr, List, [], ◌∷◌, length, refl, sym, ap}
-use Rattle.std.proofs.Common.{subst, arith}
+use Rattle.std.proofs.Common.{◌≡◌, ◌≤◌, ◌+◌, ℕ, suc, Bool, true, false, cond, ◌⊎◌, inl, inr, List}
+use Rattle.std.proofs.Common.{[], ◌∷◌, length, refl, sym, ap, subst, arith}
 use Rattle.std.specs.Ordering.{is_lt}
-use Rattle.sg_base.specs.Ranking.{put_in}
 use Rattle.sg_base.specs.Lists.{In, Pairs}
-use Rattle.path_desk.specs.Entries.{Queued, entry_cmp}
+use Rattle.sg_base.specs.Ranking.{put_in}
 use Rattle.path_desk.specs.Desks.{but_last, last_of}
+use Rattle.path_desk.specs.Entries.{Queued, entry_cmp}
 use Rattle.path_desk.proofs.OrderLemmas.{entry_lt}
 use Rattle.best_first.specs.Lists.{passing}
 

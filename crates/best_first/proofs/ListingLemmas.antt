@@ -1,35 +1,33 @@
 -- Within a start score and bytes order as ranks do.
-use Rattle.std.proofs.Common.{◌≡◌, ◌≤◌, ◌<◌, ◌+◌, ◌-◌, ◌*◌, ℕ, zero, suc, Bool, true, false, ◌&&◌}
-use Rattle.std.proofs.Common.{cond, nat_eq, eqb, ◌⊎◌, inl, inr, filter, map, Ordering, List, []}
-use Rattle.std.proofs.Common.{◌∷◌, ◌++◌, length, get_or, append_assoc, refl, sym, ap, ◌∙◌, subst}
-use Rattle.std.proofs.Common.{arith, Option, Some, None}
-use Rattle.std.specs.Prelude.{is_some}
-use Rattle.std.proofs.Math.Nat.{mul-le-mul_right}
-use Rattle.std.specs.Int.{w32, to_be_bytes}
+use Rattle.std.proofs.Common.{◌≡◌, ◌≤◌, ◌<◌, ◌+◌, ◌*◌, ℕ, suc, Bool, true, false, ◌&&◌, ◌⊎◌, inl}
+use Rattle.std.proofs.Common.{inr, Ordering, List, [], ◌∷◌, ◌++◌, refl, sym, ap, ◌∙◌, subst, arith}
+use Rattle.std.proofs.Common.{Option, Some, None}
 use Rattle.std.specs.Cmp.Lexicographic.{slice_cmp}
-use Rattle.std.specs.Ordering.{nat_cmp, is_lt, ordering_then, ordering_reverse}
-use Rattle.std.specs.declared.cmp.Ordering.TheVariants.{Less, Equal, Greater}
 use Rattle.std.specs.FinMap.{nat_cmp-IsAntisymmetric, slice_cmp-IsAntisymmetric}
-use Rattle.std.proofs.lemmas.Cmp.{nat_list_cmp_total}
+use Rattle.std.specs.Int.{w32, to_be_bytes}
+use Rattle.std.specs.Ordering.{nat_cmp, is_lt, ordering_then, ordering_reverse}
+use Rattle.std.specs.Prelude.{is_some}
+use Rattle.std.specs.declared.cmp.Ordering.TheVariants.{Less, Equal, Greater}
+use Rattle.std.proofs.Math.Nat.{mul-le-mul_right}
 use Rattle.std.proofs.lemmas.Bool.{cases_order}
 use Rattle.std.proofs.lemmas.Bool.Decides.{nat_tests}
-use Rattle.sg_base.specs.Lists.{In, Pairs}
+use Rattle.std.proofs.lemmas.Cmp.{nat_list_cmp_total}
+use Rattle.sg_base.specs.ByteStrings.{is_less}
+use Rattle.sg_base.specs.Lists.{In}
 use Rattle.sg_base.specs.Ranking.{rank_cmp}
-use Rattle.sg_base.specs.ByteStrings.{lacks, is_less}
-use Rattle.sg_base.proofs.ByteStringLemmas.{slice-less}
 use Rattle.sg_base.specs.declared.node.Edge.{Edge}
+use Rattle.sg_base.proofs.ByteStringLemmas.{slice-less}
 use Rattle.sg_context.specs.Boosts.{boost_of}
-use Rattle.sg_paths.specs.AllPaths.{FullPath, path_bytes}
+use Rattle.sg_paths.specs.AllPaths.{FullPath}
 use Rattle.sg_paths.proofs.ByteLemmas.{front_less, keys_less, number_less}
 use Rattle.fst_walk.proofs.AscendingLemmas.{not_less_both}
-use Rattle.best_first.specs.Matches.{Match}
-use Rattle.best_first.proofs.Grounds.{IsPathList, IsGround}
-use Rattle.best_first.specs.PathMatches.{Setting, place_of, boost_or, bytes_of, rank_of, match_of}
-use Rattle.best_first.specs.PathMatches.{is_match, all_matches}
-use Rattle.best_first.specs.Met.{IsAt}
 use Rattle.fst_walk.proofs.BoolLemmas.{clash}
-use Rattle.best_first.proofs.OverLemmas.{match_from}
+use Rattle.best_first.specs.Matches.{Match}
+use Rattle.best_first.specs.PathMatches.{Setting, place_of, boost_or, bytes_of, rank_of, is_match}
+use Rattle.best_first.specs.PathMatches.{all_matches}
 use Rattle.best_first.proofs.ArcLemmas.{one_context}
+use Rattle.best_first.proofs.Grounds.{IsGround}
+use Rattle.best_first.proofs.OverLemmas.{match_from}
 
 number_by : (m n : ℕ) → m < 4294967296 → n < 4294967296
     → is_less (to_be_bytes w32 m) (to_be_bytes w32 n) ≡ true → (m ≡ n) ⊎ ((m < n) ⊎ (n < m)) → m < n

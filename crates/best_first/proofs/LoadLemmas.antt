@@ -1,40 +1,27 @@
 -- Starts that are put in one after another.
-use Rattle.std.proofs.Common.{◌≡◌, ◌≤◌, ◌<◌, ◌+◌, ◌-◌, ◌*◌, ℕ, zero, suc, Bool, true, false, List}
-use Rattle.std.proofs.Common.{[], ◌∷◌, ◌++◌, length, length-append, get_or, append_assoc, map, refl}
-use Rattle.std.proofs.Common.{sym, ap, ◌∙◌, subst, arith, Option, Some, None}
+use Rattle.std.proofs.Common.{◌≡◌, ◌≤◌, ◌<◌, ◌+◌, ℕ, List, [], ◌∷◌, ◌++◌, length, length-append}
+use Rattle.std.proofs.Common.{append_assoc, map, refl, sym, ap, ◌∙◌, subst, arith}
 use Rattle.std.proofs.lemmas.List.{append-nil}
-use Rattle.std.specs.Prelude.{All, IfSome}
-use Rattle.sg_base.specs.ByteStrings.{lacks}
-use Rattle.sg_base.specs.Cuts.{PlainCut}
-use Rattle.sg_base.specs.Lists.{In}
 use Rattle.sg_base.specs.declared.limits.TheConstants.{MOST_WEIGHT}
 use Rattle.sg_base.specs.declared.node.Edge.{Edge}
-use Rattle.sg_base.specs.declared.rank.Rank.{Rank}
-use Rattle.best_first.proofs.Grounds.{IsGround}
-use Rattle.best_first.proofs.SegmentLemmas.{roots_length}
-use Rattle.best_first.specs.Matches.{Match, Best, Ends}
-use Rattle.best_first.specs.Met.{IsMet}
-use Rattle.best_first.specs.Parts.{AreDocuments, IsMapping}
-use Rattle.best_first.specs.PathMatches.{Setting, setting_of, all_matches, match_at}
-use Rattle.best_first.specs.Roots.{IsRoot, AreRoots, entry_of_start, Loading}
-use Rattle.best_first.specs.Segments.{started}
-use Rattle.best_first.specs.Steps.{arcs_of, put_all}
+use Rattle.sg_context.specs.Queries.{PlainQuery}
+use Rattle.sg_paths.specs.Operations.{PlainNumbered}
 use Rattle.fst_code.specs.Lists.{root_paths}
 use Rattle.fst_code.specs.Tails.{tails}
-use Rattle.fst_walk.proofs.PlaceLemmas.{place_cost}
-use Rattle.fst_walk.proofs.StartsLemmas.{starts_fewer}
 use Rattle.fst_walk.specs.Spots.{IsSpot}
 use Rattle.fst_walk.specs.Starts.{start_contexts}
 use Rattle.fst_walk.specs.StartsLeft.{StartsLeft, IsStart}
 use Rattle.fst_walk.specs.declared.starts.Start.{Start}
+use Rattle.fst_walk.proofs.PlaceLemmas.{place_cost}
+use Rattle.fst_walk.proofs.StartsLemmas.{starts_fewer}
 use Rattle.path_desk.specs.Desks.{PlainDesk, put_entry}
 use Rattle.path_desk.specs.Entries.{Queued, queued}
 use Rattle.path_desk.specs.declared.entry.Entry.{Entry}
-use Rattle.sg_context.proofs.BoostLemmas.{boost_of-IsBoost}
-use Rattle.sg_context.specs.Boosts.{boost_of, IsBoost}
-use Rattle.sg_context.specs.Queries.{PlainQuery, IsQuery}
-use Rattle.sg_paths.specs.AllPaths.{all_paths}
-use Rattle.sg_paths.specs.Operations.{PlainNumbered}
+use Rattle.best_first.specs.Parts.{IsMapping}
+use Rattle.best_first.specs.Roots.{IsRoot, AreRoots, entry_of_start, Loading}
+use Rattle.best_first.specs.Segments.{started}
+use Rattle.best_first.specs.Steps.{put_all}
+use Rattle.best_first.proofs.SegmentLemmas.{roots_length}
 
 is_root : (old new : StartsLeft) (st : Start) (i : IsStart old new st)
     → IsRoot old.query old.nodes old.given i.context (entry_of_start st)
@@ -70,8 +57,8 @@ pub loading-next : (q : PlainQuery) (t : List (List Edge)) (cs : List (List ℕ)
     → Loading q t cs new (roots ++ entry_of_start st ∷ [])
 loading-next q t cs old new roots st l i e f =
     let r0 = is_root old new st i in
-    let r1 = subst (λ z. IsRoot z old.nodes old.given i.context (entry_of_start st)) l.of_query r0
-    in
+    let r1 =
+    subst (λ z. IsRoot z old.nodes old.given i.context (entry_of_start st)) l.of_query r0 in
     let r2 = subst (λ z. IsRoot q z old.given i.context (entry_of_start st)) l.of_nodes r1 in
     let g = l.given in
     let n = i.given in
@@ -115,8 +102,8 @@ pub start_cost : (q : PlainQuery) (t : List (List Edge)) (ds : List PlainNumbere
     (cs : List (List ℕ)) (old new : StartsLeft) (roots : List Entry) (st : Start) → IsMapping t ds
     → Loading q t cs old roots → IsStart old new st → st.spot.cost ≤ MOST_WEIGHT
 start_cost q t ds cs old new roots st m l i =
-    let spot = subst (λ z. IsSpot z (i.context ++ 29 ∷ old.query.prefix) st.spot) l.of_nodes i.spot
-    in
+    let spot =
+    subst (λ z. IsSpot z (i.context ++ 29 ∷ old.query.prefix) st.spot) l.of_nodes i.spot in
     place_cost (root_paths t) (tails t) _ _ _ _ 2147483647 spot.meets
     (m.transducer.some st.spot.node.0 spot.is_node) m.transducer.cheap
 

@@ -1,27 +1,26 @@
 -- With one start the reached paths are the first of the matching paths in order.
-use Rattle.std.proofs.Common.{◌≡◌, ◌≤◌, ◌⊎◌, inl, inr, ℕ, suc, true}
-use Rattle.std.proofs.Common.{List, [], ◌∷◌, length, take, refl, sym}
-use Rattle.std.proofs.Common.{ap, ◌∙◌, subst, arith}
-use Rattle.std.specs.Prelude.{None}
-use Rattle.std.specs.Ordering.{is_lt, nat_cmp, ordering_then}
+use Rattle.std.proofs.Common.{◌≡◌, ◌≤◌, ◌⊎◌, inl, inr, ℕ, suc, true, List, [], ◌∷◌, length, take}
+use Rattle.std.proofs.Common.{refl, sym, ap, ◌∙◌, subst, arith}
 use Rattle.std.specs.Cmp.Lexicographic.{slice_cmp}
+use Rattle.std.specs.Ordering.{is_lt, nat_cmp, ordering_then}
+use Rattle.std.specs.Prelude.{None}
 use Rattle.sg_base.specs.Lists.{In, Pairs}
 use Rattle.sg_base.specs.declared.rank.Rank.{Rank}
-use Rattle.best_first.specs.Lists.{Beside}
-use Rattle.path_desk.specs.Entries.{Queued}
 use Rattle.path_desk.specs.Desks.{PlainDesk}
+use Rattle.path_desk.specs.Entries.{Queued}
 use Rattle.path_desk.proofs.OrderLemmas.{entry_lt}
-use Rattle.best_first.proofs.EntryLemmas.{within_start}
-use Rattle.best_first.specs.Matches.{Match, Ends}
+use Rattle.best_first.specs.Exact.{IsInOrder}
 use Rattle.best_first.specs.Listings.{IsListing}
+use Rattle.best_first.specs.Lists.{Beside}
+use Rattle.best_first.specs.Matches.{Match, Ends}
 use Rattle.best_first.specs.Progress.{Taken, Progress}
 use Rattle.best_first.specs.Segments.{Between}
-use Rattle.best_first.specs.Exact.{IsInOrder}
-use Rattle.best_first.proofs.CoverLemmas.{covers-start}
 use Rattle.best_first.proofs.CompleteLemmas.{reached_or_left, reached_in_all}
+use Rattle.best_first.proofs.CoverLemmas.{covers-start}
 use Rattle.best_first.proofs.DoneLemmas.{between-progress, reached-before}
-use Rattle.best_first.proofs.PrefixLemmas.{match_lt, Distinct, IsFront}
-use Rattle.best_first.proofs.PrefixLemmas.{prefix_is, never_before_itself}
+use Rattle.best_first.proofs.EntryLemmas.{within_start}
+use Rattle.best_first.proofs.PrefixLemmas.{match_lt, Distinct, IsFront, prefix_is}
+use Rattle.best_first.proofs.PrefixLemmas.{never_before_itself}
 
 pub beside-length : {X Y : Type 0} (R : X → Y → Type 0) (xs : List X) (ys : List Y) → Beside R xs ys
     → length xs ≡ length ys

@@ -1,40 +1,36 @@
 -- From a cursor of the transducer to what an entry lies over.
-use Rattle.std.proofs.Common.{◌≡◌, ◌≤◌, ◌<◌, ◌+◌, ◌-◌, ◌*◌, ℕ, zero, suc, Bool, true, false, ◌&&◌}
-use Rattle.std.proofs.Common.{cond, nat_eq, ◌⊎◌, inl, inr, filter, map, List, [], ◌∷◌, ◌++◌, length}
-use Rattle.std.proofs.Common.{get_or, append_assoc, refl, sym, ap, ◌∙◌, subst, arith, Option, Some}
-use Rattle.std.proofs.Common.{None}
+use Rattle.std.proofs.Common.{◌≡◌, ◌≤◌, ◌<◌, ◌+◌, ◌-◌, ◌*◌, ℕ, true, false, inl, inr, filter, map}
+use Rattle.std.proofs.Common.{List, [], ◌∷◌, ◌++◌, length, append_assoc, refl, sym, ap, ◌∙◌, subst}
+use Rattle.std.proofs.Common.{arith, Some}
 use Rattle.std.specs.Prelude.{is_some}
 use Rattle.std.proofs.lemmas.Bool.{and_from}
-use Rattle.sg_base.specs.declared.limits.TheConstants.{MOST_WEIGHT}
+use Rattle.sg_base.specs.ByteStrings.{begins}
 use Rattle.sg_base.specs.Lists.{In, Pairs}
-use Rattle.sg_base.specs.ByteStrings.{lacks, begins}
+use Rattle.sg_base.specs.declared.limits.TheConstants.{MOST_WEIGHT}
 use Rattle.sg_base.specs.declared.node.Edge.{Edge}
 use Rattle.sg_base.proofs.ListLemmas.{in-append, in-map, each_in}
-use Rattle.best_first.specs.Lists.{passing}
 use Rattle.sg_context.specs.Boosts.{boost_of}
 use Rattle.sg_paths.specs.AllPaths.{FullPath, path_bytes}
+use Rattle.fst_code.specs.Lists.{root_paths, HasFree}
 use Rattle.fst_code.specs.Tails.{Tail, along, spread, tails}
-use Rattle.fst_code.specs.Lists.{root_paths}
-use Rattle.fst_code.specs.Transducers.{IsTransducer, IsNode, Rises}
+use Rattle.fst_code.specs.Transducers.{Rises}
 use Rattle.fst_walk.specs.Fronts.{behind}
 use Rattle.fst_walk.specs.Spots.{IsPlace}
-use Rattle.fst_walk.proofs.ListLemmas.{In-filter, filter_keeps}
-use Rattle.path_desk.specs.Entries.{Queued, queued}
-use Rattle.fst_walk.proofs.BeginLemmas.{begins-append, begins-cancel}
-use Rattle.best_first.proofs.EntryLemmas.{begun_rest}
-use Rattle.best_first.proofs.MemberLemmas.{in-left, in-right, map-in, in-split}
-use Rattle.best_first.specs.Matches.{Match, covers, Best, Ends}
-use Rattle.best_first.proofs.Overs.{score_at, IsSpread, IsOver}
-use Rattle.best_first.proofs.CoverLemmas.{covers-start, covers-bytes, covers-of}
-use Rattle.best_first.specs.PathMatches.{tail_of, path_tails, Setting, place_of, boost_or, bytes_of}
-use Rattle.best_first.specs.PathMatches.{rank_of, match_of, is_match, all_matches}
-use Rattle.best_first.proofs.Grounds.{IsPathList, IsGround}
-use Rattle.best_first.specs.Met.{IsAt, IsMet}
-use Rattle.fst_code.specs.Lists.{HasFree}
-use Rattle.best_first.specs.Steps.{arcs_of}
+use Rattle.fst_walk.proofs.BeginLemmas.{begins-cancel}
 use Rattle.fst_walk.proofs.BoolLemmas.{clash}
-use Rattle.best_first.proofs.TextLemmas.{cut_same, regroup, begins_key, key_begins}
+use Rattle.fst_walk.proofs.ListLemmas.{In-filter, filter_keeps}
+use Rattle.path_desk.specs.Entries.{Queued}
+use Rattle.best_first.specs.Matches.{Match}
+use Rattle.best_first.specs.Met.{IsAt, IsMet}
+use Rattle.best_first.specs.PathMatches.{tail_of, Setting, place_of, boost_or, bytes_of, rank_of}
+use Rattle.best_first.specs.PathMatches.{match_of, is_match, all_matches}
+use Rattle.best_first.specs.Steps.{arcs_of}
+use Rattle.best_first.proofs.CoverLemmas.{covers-start, covers-bytes}
+use Rattle.best_first.proofs.Grounds.{IsGround}
+use Rattle.best_first.proofs.MemberLemmas.{in-left, in-right, map-in}
+use Rattle.best_first.proofs.Overs.{IsSpread, IsOver}
 use Rattle.best_first.proofs.StartLemmas.{at_one, at_in, at_place, number_of}
+use Rattle.best_first.proofs.TextLemmas.{cut_same, regroup, begins_key, key_begins}
 
 -- what a place says of members
 pub under_place : (paths : List Tail) (ways : ℕ → List Tail) (b : List ℕ) (n c o : ℕ) (t : Tail)
@@ -182,8 +178,8 @@ module _ (s : Setting) (t : List (List Edge)) (ps : List FullPath) (g : IsGround
         let e : p.entry.cost + v.1 ≡ MOST_WEIGHT - r.0.entry.weight = ap (λ (z : Tail). z.1) r.2 in
         let bytes : path_bytes r.0 ≡ k.context ++ 29 ∷ (p.bytes ++ v.0) =
         sym (ap (λ (z : Tail). z.0) r.2) ∙ longer k.context p.bytes v.0 in
-        let m = path_under k.context (p.bytes ++ v.0) p.entry.start p.entry.boost r.0 r.1 k.at k.boost
-        (key_begins s.query.prefix p.bytes v.0 k.under) bytes in
+        let m = path_under k.context (p.bytes ++ v.0) p.entry.start p.entry.boost r.0 r.1 k.at
+        k.boost (key_begins s.query.prefix p.bytes v.0 k.under) bytes in
         let weight = from_weight r.0.entry.weight (p.entry.cost + v.1) (g.paths.light r.0 r.1) e in
         (match_of s r.0, match_in r.0 r.1 m.0, m.1, m.2, m.3 ∙ ap (λ z. z * p.entry.boost) weight);
     from = λ m i c.
@@ -210,8 +206,8 @@ module _ (s : Setting) (t : List (List Edge)) (ps : List FullPath) (g : IsGround
         k.boost (key_begins s.query.prefix p.bytes v.0.0 k.under) bytes in
         let cost : p.entry.cost + v.0.1 ≡ MOST_WEIGHT - f.0.entry.weight =
         sym (ap (λ (z : Tail). z.1) v.2) in
-        let weight = from_weight f.0.entry.weight (p.entry.cost + v.0.1) (g.paths.light f.0 f.1) cost
-        in (
+        let weight =
+        from_weight f.0.entry.weight (p.entry.cost + v.0.1) (g.paths.light f.0 f.1) cost in (
           v.0,
           v.1,
           mb ∙ under.2,

@@ -1,16 +1,16 @@
 -- The reached paths are the first of the matching paths in order.
-use Rattle.std.proofs.Common.{◌≡◌, ◌≤◌, ◌⊎◌, inl, inr, ℕ, zero, suc, Bool, true}
-use Rattle.std.proofs.Common.{List, [], ◌∷◌, ◌++◌, length, length-append, take, drop, refl, sym, ap}
-use Rattle.std.proofs.Common.{◌∙◌, subst, arith}
-use Rattle.std.specs.Ordering.{is_lt}
+use Rattle.std.proofs.Common.{◌≡◌, ◌≤◌, ◌⊎◌, inl, inr, ℕ, zero, suc, Bool, true, List, [], ◌∷◌}
+use Rattle.std.proofs.Common.{◌++◌, length, length-append, take, drop, refl, sym, ap, ◌∙◌, subst}
+use Rattle.std.proofs.Common.{arith}
 use Rattle.std.specs.Cmp.{IsStrictWeakOrder}
+use Rattle.std.specs.Ordering.{is_lt}
 use Rattle.std.proofs.lemmas.List.MinMax.{ranks_by}
 use Rattle.sg_base.specs.Lists.{In, Pairs}
-use Rattle.sg_base.proofs.Orders.{at_most_itself, not_both, weaken}
 use Rattle.sg_base.proofs.ListLemmas.{in-append}
-use Rattle.best_first.proofs.RowLemmas.{in-append-left, in-append-right}
-use Rattle.best_first.specs.Matches.{Match}
+use Rattle.sg_base.proofs.Orders.{at_most_itself, not_both, weaken}
 use Rattle.best_first.specs.Exact.{match_cmp, match_cmp_total}
+use Rattle.best_first.specs.Matches.{Match}
+use Rattle.best_first.proofs.MemberLemmas.{in-left, in-right}
 
 abbrev pub match_lt : Match → Match → Bool
 match_lt a b = is_lt (match_cmp a b)
@@ -46,15 +46,15 @@ around y (x ∷ xs) (inr i) = let r =
 in_around : (x y : Match) (us vs : List Match) → In x (us ++ y ∷ vs) → (x ≡ y) ⊎ In x (us ++ vs)
 in_around x y us vs i =
     elim (in-append x us (y ∷ vs) i) as (λ _. (x ≡ y) ⊎ In x (us ++ vs)) [
-      | inl j ↦ inr (in-append-left x us vs j)
+      | inl j ↦ inr (in-left x us vs j)
       | inr j ↦ elim j as (λ _. (x ≡ y) ⊎ In x (us ++ vs))
-          [ inl e ↦ inl e | inr l ↦ inr (in-append-right x us vs l) ]
+          [ inl e ↦ inl e | inr l ↦ inr (in-right x us vs l) ]
     ]
 
 around_in : (x y : Match) (us vs : List Match) → In x (us ++ vs) → In x (us ++ y ∷ vs)
 around_in x y us vs i =
     elim (in-append x us vs i) as (λ _. In x (us ++ y ∷ vs))
-    [ inl j ↦ in-append-left x us (y ∷ vs) j | inr j ↦ in-append-right x us (y ∷ vs) (inr j) ]
+    [ inl j ↦ in-left x us (y ∷ vs) j | inr j ↦ in-right x us (y ∷ vs) (inr j) ]
 
 distinct_rest : (y : Match) (us vs : List Match) → Distinct (us ++ y ∷ vs) → Distinct (us ++ vs)
 distinct_rest y [] vs d = d.1
@@ -63,7 +63,7 @@ distinct_rest y (u ∷ us) vs d = (λ x i. d.0 x (around_in x y us vs i), distin
 not_again : (x y : Match) (us vs : List Match) → Distinct (us ++ y ∷ vs) → In x (us ++ vs) → x ≡ y
     → ⊥
 not_again x y [] vs d i e = d.0 x i (sym e)
-not_again x y (u ∷ us) vs d (inl i) e = d.0 y (in-append-right y us (y ∷ vs) (inl refl)) (sym i ∙ e)
+not_again x y (u ∷ us) vs d (inl i) e = d.0 y (in-right y us (y ∷ vs) (inl refl)) (sym i ∙ e)
 not_again x y (u ∷ us) vs d (inr i) e = not_again x y us vs d.1 i e
 
 length_around : (y : Match) (us vs : List Match) → length (us ++ y ∷ vs) ≡ suc (length (us ++ vs))
@@ -143,12 +143,6 @@ in-drop_or_take x (suc n) (y ∷ ys) (inr i) =
     elim (in-drop_or_take x n ys i) as (λ _. In x (take (suc n) (y ∷ ys)) ⊎ In x (drop n ys))
     [ inl j ↦ inl (inr j) | inr j ↦ inr j ]
 
-in_take : (x : Match) (n : ℕ) (xs : List Match) → In x (take n xs) → In x xs
-in_take x zero xs i = elim i [ ]
-in_take x (suc n) [] i = i
-in_take x (suc n) (y ∷ ys) (inl e) = inl e
-in_take x (suc n) (y ∷ ys) (inr i) = inr (in_take x n ys i)
-
 pub in_drop : (x : Match) (n : ℕ) (xs : List Match) → In x (drop n xs) → In x xs
 in_drop x zero xs i = i
 in_drop x (suc n) [] i = i
@@ -166,11 +160,6 @@ pub rising_drop : (n : ℕ) (xs : List Match) → Rising xs → Rising (drop n x
 rising_drop zero xs up = up
 rising_drop (suc n) [] up = up
 rising_drop (suc n) (x ∷ xs) up = rising_drop n xs up.1
-
-pub take_drop : (n : ℕ) (xs : List Match) → xs ≡ take n xs ++ drop n xs
-take_drop zero xs = refl
-take_drop (suc n) [] = refl
-take_drop (suc n) (x ∷ xs) = ap (λ zs. x ∷ zs) (take_drop n xs)
 
 pub take_of_append : (first : List Match) (rest : List Match) (n : ℕ) → length first ≡ n
     → take n (first ++ rest) ≡ first

@@ -1,25 +1,24 @@
 -- The steps of a search keep what holds of it.
-use Rattle.std.proofs.Common.{◌≡◌, ◌≤◌, ◌<◌, ◌+◌, ℕ, Bool, true, false, cond}
-use Rattle.std.proofs.Common.{◌⊎◌, inl, inr, List, [], ◌∷◌, length, refl, sym, ap}
-use Rattle.std.proofs.Common.{◌∙◌, subst, arith}
+use Rattle.std.proofs.Common.{◌≡◌, ◌≤◌, ◌<◌, ◌+◌, ℕ, Bool, true, false, cond, ◌⊎◌, inl, inr, List}
+use Rattle.std.proofs.Common.{[], ◌∷◌, length, refl, sym, ap, ◌∙◌, subst, arith}
 use Rattle.std.specs.Prelude.{Option, Some, None, nat_lt}
 use Rattle.std.proofs.lemmas.Bool.{ltb-true, ltb-false}
-use Rattle.sg_base.specs.Ranking.{put_in}
-use Rattle.sg_base.proofs.Orders.{at_most_itself, at_most_trans, below_trans, weaken, not_both}
-use Rattle.sg_base.proofs.MarkLemmas.{mark_lt, marks_ordered}
 use Rattle.sg_base.specs.Lists.{In}
-use Rattle.path_desk.specs.Entries.{Queued, entry_cmp, mark_of}
+use Rattle.sg_base.specs.Ranking.{put_in}
+use Rattle.sg_base.proofs.MarkLemmas.{mark_lt, marks_ordered}
+use Rattle.sg_base.proofs.Orders.{at_most_itself, at_most_trans, below_trans, weaken, not_both}
 use Rattle.path_desk.specs.Desks.{PlainQueue, queue, shed, put_queued, but_last, last_of, first_of}
+use Rattle.path_desk.specs.Entries.{Queued, entry_cmp, mark_of}
 use Rattle.path_desk.proofs.OrderLemmas.{entry_lt, entries_ordered}
 use Rattle.path_desk.proofs.QueueLemmas.{length-put_in}
-use Rattle.best_first.proofs.EntryLemmas.{mark_of-below}
 use Rattle.best_first.specs.Lists.{passing}
 use Rattle.best_first.specs.Matches.{Match, covers, Best}
 use Rattle.best_first.specs.Progress.{Taken, IsFirst, Left, Progress}
+use Rattle.best_first.proofs.CoverLemmas.{strictly}
+use Rattle.best_first.proofs.EntryLemmas.{mark_of-below}
 use Rattle.best_first.proofs.ListLemmas.{passing-in, in_put, passing-put, rising-put, Rising}
 use Rattle.best_first.proofs.ListLemmas.{passing-last, in_but_last, in_last, length-but_last}
 use Rattle.best_first.proofs.ListLemmas.{pairs-but_last, before_last}
-use Rattle.best_first.proofs.CoverLemmas.{strictly}
 
 below : (a b c : Queued) → entry_lt a b ≡ true → entry_lt b c ≡ true → entry_lt a c ≡ true
 below a b c p q = below_trans entry_lt entries_ordered a b c p q

@@ -1,22 +1,22 @@
 -- What the calls on the desk do to what holds of the search.
-use Rattle.std.proofs.Common.{◌≡◌, ◌≤◌, ◌<◌, ◌+◌, ◌-◌, inl, inr, ℕ, zero, suc, Bool, true}
-use Rattle.std.proofs.Common.{false, List, [], ◌∷◌, ◌++◌, length, length-append, take, drop, map}
-use Rattle.std.proofs.Common.{refl, sym, ap, ◌∙◌, subst, arith}
+use Rattle.std.proofs.Common.{◌≡◌, ◌≤◌, ◌<◌, ◌+◌, ◌-◌, inl, inr, ℕ, zero, suc, Bool, true, false}
+use Rattle.std.proofs.Common.{List, [], ◌∷◌, ◌++◌, length, length-append, take, drop, map, refl}
+use Rattle.std.proofs.Common.{sym, ap, ◌∙◌, subst, arith}
 use Rattle.std.specs.Prelude.{Option, Some, slice_index_or, IsSome, nat_lt}
-use Rattle.std.proofs.lemmas.List.{append-nil}
 use Rattle.std.proofs.lemmas.Bool.{ltb-true, ltb-false}
+use Rattle.std.proofs.lemmas.List.{append-nil}
 use Rattle.sg_base.specs.Lists.{In}
 use Rattle.sg_base.specs.declared.node.Edge.{Edge}
-use Rattle.path_desk.specs.declared.entry.Entry.{Entry}
-use Rattle.path_desk.specs.Entries.{Queued, queued}
 use Rattle.path_desk.specs.Desks.{PlainDesk, put_entry, taken_room, path_of, path_bytes, stepped}
+use Rattle.path_desk.specs.Entries.{Queued, queued}
+use Rattle.path_desk.specs.declared.entry.Entry.{Entry}
+use Rattle.best_first.specs.Families.{IsFamily}
 use Rattle.best_first.specs.Matches.{Match, Best}
 use Rattle.best_first.specs.Progress.{Taken, IsCurrent, Progress}
-use Rattle.best_first.specs.Families.{IsFamily}
 use Rattle.best_first.specs.Segments.{Searching, Follows}
 use Rattle.best_first.specs.Steps.{child_entry, child, put_all, arcs_of, IsFree, HasFreeArc, Knows}
-use Rattle.best_first.proofs.ProgressLemmas.{progress-put}
 use Rattle.best_first.proofs.ChooseLemmas.{progress-choose}
+use Rattle.best_first.proofs.ProgressLemmas.{progress-put}
 
 pub searching-put : (all : List Match) (P : Queued → Type 0) (reached : List Match) (d : PlainDesk)
     (x : Queued) (rest : List Queued) (current : Option Queued)

@@ -1,43 +1,38 @@
 -- A segment's transducer and list of paths are what the search assumes.
-use Rattle.std.proofs.Common.{◌≡◌, ◌≤◌, ◌<◌, ◌+◌, ◌-◌, ◌*◌, ℕ, zero, suc, Bool, true, false, not}
-use Rattle.std.proofs.Common.{◌&&◌, cond, nat_eq, ◌⊎◌, inl, inr, filter, map, List, [], ◌∷◌, ◌++◌}
-use Rattle.std.proofs.Common.{length, length-append, get_or, append_assoc, refl, sym, ap, ◌∙◌}
-use Rattle.std.proofs.Common.{subst, arith, Option, Some, None}
+use Rattle.std.proofs.Common.{◌≡◌, ◌≤◌, ◌<◌, ◌+◌, ◌-◌, ℕ, suc, Bool, true, false, ◌&&◌, cond, ◌⊎◌}
+use Rattle.std.proofs.Common.{inl, inr, map, List, [], ◌∷◌, ◌++◌, length, length-append, refl, sym}
+use Rattle.std.proofs.Common.{ap, ◌∙◌, subst, arith}
 use Rattle.std.proofs.lemmas.Bool.{cases_order}
-use Rattle.sg_base.specs.Lists.{In, Pairs}
-use Rattle.sg_base.specs.ByteStrings.{lacks, begins}
+use Rattle.sg_base.specs.ByteStrings.{begins}
+use Rattle.sg_base.specs.Lists.{In}
 use Rattle.sg_base.specs.declared.node.Edge.{Edge}
 use Rattle.sg_base.proofs.ListLemmas.{in-map}
-use Rattle.best_first.specs.Lists.{passing}
 use Rattle.sg_context.specs.Queries.{PlainQuery}
-use Rattle.sg_paths.specs.AllPaths.{FullPath, path_bytes}
-use Rattle.sg_paths.proofs.ByteLemmas.{lacks_parts}
-use Rattle.fst_code.specs.Tails.{Tail, tails}
+use Rattle.sg_paths.specs.AllPaths.{FullPath}
 use Rattle.fst_code.specs.Lists.{root_paths}
-use Rattle.fst_code.specs.Transducers.{IsTransducer}
+use Rattle.fst_code.specs.Tails.{Tail, tails}
 use Rattle.fst_walk.specs.Fronts.{behind}
 use Rattle.fst_walk.specs.Spots.{IsPlace}
-use Rattle.fst_walk.proofs.FrontLemmas.{length-behind}
-use Rattle.path_desk.specs.declared.entry.Entry.{Entry}
-use Rattle.path_desk.specs.Entries.{Queued, queued, key_part}
 use Rattle.fst_walk.proofs.BeginLemmas.{begins_itself}
-use Rattle.best_first.specs.Matches.{Match, covers, Best, Ends}
+use Rattle.fst_walk.proofs.FrontLemmas.{length-behind}
+use Rattle.path_desk.specs.Entries.{Queued, queued, key_part}
+use Rattle.path_desk.specs.declared.entry.Entry.{Entry}
 use Rattle.best_first.specs.Listings.{IsListing}
-use Rattle.best_first.specs.Segments.{IsSegment}
-use Rattle.best_first.proofs.CoverLemmas.{covers-of, covers-start}
-use Rattle.best_first.proofs.ChildLemmas.{best-over}
-use Rattle.best_first.proofs.Grounds.{IsPathList, IsGround}
-use Rattle.best_first.specs.PathMatches.{Setting, place_of, bytes_of, rank_of, match_of, is_match}
-use Rattle.best_first.specs.PathMatches.{all_matches, match_at}
+use Rattle.best_first.specs.Lists.{passing}
+use Rattle.best_first.specs.Matches.{Match, covers, Best}
 use Rattle.best_first.specs.Met.{IsAt, IsMet}
-use Rattle.best_first.specs.Steps.{arcs_of, Knows}
+use Rattle.best_first.specs.PathMatches.{Setting, place_of, all_matches, match_at}
 use Rattle.best_first.specs.Roots.{IsRoot, AreRoots}
-use Rattle.fst_walk.proofs.BoolLemmas.{clash}
-use Rattle.best_first.proofs.TextLemmas.{key_begins, key_is}
-use Rattle.best_first.proofs.StartLemmas.{at_place, at_few}
-use Rattle.best_first.proofs.OverLemmas.{over_of, match_from}
+use Rattle.best_first.specs.Segments.{IsSegment}
+use Rattle.best_first.specs.Steps.{Knows}
 use Rattle.best_first.proofs.ArcLemmas.{within_at, short_at, free_at, family_at, end_at}
+use Rattle.best_first.proofs.ChildLemmas.{best-over}
+use Rattle.best_first.proofs.CoverLemmas.{covers-of, covers-start}
+use Rattle.best_first.proofs.Grounds.{IsGround}
 use Rattle.best_first.proofs.ListingLemmas.{ordered_at}
+use Rattle.best_first.proofs.OverLemmas.{over_of, match_from}
+use Rattle.best_first.proofs.StartLemmas.{at_place, at_few}
+use Rattle.best_first.proofs.TextLemmas.{key_begins, key_is}
 
 -- a cursor under some bytes isn't the root
 not_whole : (paths before after : List Tail) (b : List ℕ) (c : ℕ)

@@ -1,41 +1,39 @@
 -- With one start and an empty queue: where something was dropped, the next path after the room is
 -- needed, and the truncation point is at it.
 use Rattle.std.proofs.Common.{◌≡◌, ◌≤◌, ◌<◌, ◌+◌, ◌⊎◌, inl, inr, ℕ, zero, suc, Bool, true, false}
-use Rattle.std.proofs.Common.{cond, List, [], ◌∷◌, ◌++◌, length, take, drop, refl, sym}
-use Rattle.std.proofs.Common.{ap, ◌∙◌, subst, arith}
-use Rattle.std.specs.Prelude.{Some, None}
+use Rattle.std.proofs.Common.{cond, List, [], ◌∷◌, ◌++◌, length, take, drop, refl, sym, ap, ◌∙◌}
+use Rattle.std.proofs.Common.{subst, arith}
+use Rattle.std.specs.Cmp.Lexicographic.{slice_cmp}
 use Rattle.std.specs.Ordering.{is_lt, nat_cmp, ordering_then}
+use Rattle.std.specs.Prelude.{Some, None}
 use Rattle.std.specs.declared.cmp.Ordering.{Ordering}
 use Rattle.std.specs.declared.cmp.Ordering.TheVariants.{Less, Equal, Greater}
-use Rattle.std.specs.Cmp.Lexicographic.{slice_cmp}
 use Rattle.std.proofs.lemmas.Bool.Decides.{nat_tests}
+use Rattle.std.proofs.lemmas.List.{take-append-drop}
+use Rattle.sg_base.specs.ByteStrings.{begins}
 use Rattle.sg_base.specs.Lists.{In}
+use Rattle.sg_base.specs.Rows.{ranked}
 use Rattle.sg_base.specs.declared.rank.Rank.{Rank}
 use Rattle.sg_base.proofs.Orders.{not_both, at_most_itself}
-use Rattle.sg_base.specs.ByteStrings.{begins}
-use Rattle.sg_base.specs.Rows.{ranked}
-use Rattle.best_first.specs.Lists.{passing}
-use Rattle.path_desk.specs.Entries.{Queued, queued, key_part, rest_part}
 use Rattle.path_desk.specs.Desks.{PlainDesk, cut_at}
+use Rattle.path_desk.specs.Entries.{Queued, queued, key_part, rest_part}
 use Rattle.path_desk.proofs.OrderLemmas.{entry_lt, entries_ordered}
-use Rattle.best_first.proofs.EntryLemmas.{stays_before, within_start, begun_rest, begins-key_part}
-use Rattle.best_first.proofs.EntryLemmas.{tied_entries}
 use Rattle.collector.proofs.RankingLemmas.{ranked-same}
-use Rattle.best_first.specs.Matches.{Match, covers, Best, Ends, ranks_of}
+use Rattle.best_first.specs.Exact.{IsInOrder, IsShort, IsExact}
 use Rattle.best_first.specs.Listings.{IsListing}
+use Rattle.best_first.specs.Lists.{passing}
+use Rattle.best_first.specs.Matches.{Match, covers, Best, Ends, ranks_of}
 use Rattle.best_first.specs.Progress.{Taken, IsFirst, Progress}
 use Rattle.best_first.specs.Segments.{Between}
-use Rattle.best_first.specs.Exact.{IsInOrder, IsShort, IsExact}
-use Rattle.best_first.proofs.ListLemmas.{passing-in}
+use Rattle.best_first.proofs.CompleteLemmas.{reached_or_left, beside-back, in-ranks_of, ranks_of-in}
 use Rattle.best_first.proofs.CoverLemmas.{covers-start, covers-bytes, not_begun}
-use Rattle.best_first.proofs.CompleteLemmas.{reached_or_left}
-use Rattle.best_first.proofs.CompleteLemmas.{beside-back, in-ranks_of, ranks_of-in}
 use Rattle.best_first.proofs.DoneLemmas.{between-progress}
-use Rattle.best_first.proofs.PrefixLemmas.{match_lt, Rising}
-use Rattle.best_first.proofs.PrefixLemmas.{never_before_itself, never_both}
-use Rattle.best_first.proofs.PrefixLemmas.{in-drop_or_take, in_drop, take_before_drop, rising_drop}
-use Rattle.best_first.proofs.PrefixLemmas.{take_drop}
+use Rattle.best_first.proofs.EntryLemmas.{stays_before, within_start, begun_rest, begins-key_part}
+use Rattle.best_first.proofs.EntryLemmas.{tied_entries}
+use Rattle.best_first.proofs.ListLemmas.{passing-in}
 use Rattle.best_first.proofs.OrderLemmas.{zero_start, reached_is, beside-length}
+use Rattle.best_first.proofs.PrefixLemmas.{match_lt, Rising, never_before_itself, never_both}
+use Rattle.best_first.proofs.PrefixLemmas.{in-drop_or_take, in_drop, take_before_drop, rising_drop}
 
 -- two members that differ are counted twice
 two_at : (b : Bool) (p : Queued → Bool) (x y z : Queued) (zs : List Queued) → p z ≡ b → (x ≡ y → ⊥)
@@ -159,7 +157,8 @@ module _ (all order : List Match) (P : Queued → Type 0) (reached : List Match)
 
       m0_at : (m0 ≡ next) ⊎ (match_lt next m0 ≡ true)
       m0_at =
-          elim (subst (λ z. In m0 z) rest in_rest) as (λ _. (m0 ≡ next) ⊎ (match_lt next m0 ≡ true)) [
+          elim (subst (λ z. In m0 z) rest in_rest) as
+          (λ _. (m0 ≡ next) ⊎ (match_lt next m0 ≡ true)) [
             | inl e ↦ inl e
             | inr i ↦ inr ((subst Rising rest (rising_drop d.room order o.rising)).0 m0 i)
           ]
@@ -222,7 +221,8 @@ module _ (all order : List Match) (P : Queued → Type 0) (reached : List Match)
       not_before : (c : Bool) → entry_lt f x ≡ c → entry_lt f x ≡ false
       not_before true e =
           absurd (elim m0_at as (λ _. ⊥) [
-            | inl q ↦ never_before_itself next (subst (λ z. match_lt z next ≡ true) q (before_next e))
+            | inl q ↦ never_before_itself next
+                (subst (λ z. match_lt z next ≡ true) q (before_next e))
             | inr q ↦ never_both m0 next (before_next e) q
           ])
       not_before false e = e
@@ -267,7 +267,7 @@ module _ (all order : List Match) (P : Queued → Type 0) (reached : List Match)
       is_short = record {
         first = take d.room order;
         after = after;
-        is = take_drop d.room order ∙ ap (λ zs. take d.room order ++ zs) rest;
+        is = sym (take-append-drop d.room order) ∙ ap (λ zs. take d.room order ++ zs) rest;
         as_many = take_full d.room order next after rest;
         few =
             let q : length rows ≡ length (take k (ranked (ranks_of reached))) = ap length b.kept in

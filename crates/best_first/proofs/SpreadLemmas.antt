@@ -1,17 +1,14 @@
 -- Counting matching paths by the entries over them.
 use Rattle.std.proofs.Common.{◌≡◌, ◌≤◌, ◌<◌, ◌+◌, ◌⊎◌, inl, inr, ℕ, zero, suc, Bool, true, false}
-use Rattle.std.proofs.Common.{cond, nat_eq, not, ◌&&◌, List, [], ◌∷◌, length, refl, sym, ap}
-use Rattle.std.proofs.Common.{◌∙◌, arith}
+use Rattle.std.proofs.Common.{cond, nat_eq, not, ◌&&◌, List, [], ◌∷◌, length, refl, sym, ap, ◌∙◌}
+use Rattle.std.proofs.Common.{arith}
 use Rattle.std.specs.List.{filter}
+use Rattle.std.proofs.lemmas.Bool.{and_from, eqb-true, ne_eqb, not-true}
 use Rattle.std.proofs.lemmas.Bool.Decides.{nat_tests}
 use Rattle.sg_base.specs.Lists.{In, Pairs}
 use Rattle.sg_base.proofs.ListLemmas.{in-filter}
 use Rattle.best_first.specs.Lists.{passing}
 use Rattle.best_first.proofs.ListLemmas.{passing-in}
-
-and_both : (s t : Bool) → s ≡ true → t ≡ true → (s && t) ≡ true
-and_both true t e f = f
-and_both false t e f = cc
 
 abbrev total : {X : Type 0} → (X → ℕ) → List X → ℕ
 total f [] = 0
@@ -72,7 +69,7 @@ pub spread : {M E : Type 0} (P : M → Bool) (c : M → E → Bool) (ms : List M
 spread {M} {E} P c ms es one some =
     let l = least (λ e. total (λ m. cond (P m && c m e) 1 0) ms) es
     (λ e i. let w = some e i in let h =
-    passing-in (λ m. P m && c m e) w.0 ms w.1 (and_both (P w.0) (c w.0 e) w.2 w.3) in
+    passing-in (λ m. P m && c m e) w.0 ms w.1 (and_from (P w.0) (c w.0 e) w.2 w.3) in
     let t = passing-total (λ m. P m && c m e) ms in omega (arith, h, t)) in
     let h = most P (λ m. total (λ e. cond (c m e) 1 0) es) ms
     (λ m i. let k = one m i in let t = passing-total (c m) es in omega (arith, k, t)) in
@@ -95,20 +92,10 @@ kept_all n [] f = refl
 kept_all n (x ∷ xs) f = kept_all_at (nat_eq x n) n x xs refl (f x (inl refl))
     (kept_all n xs (λ y i. f y (inr i)))
 
-same_number : (m n : ℕ) → nat_eq m n ≡ true → m ≡ n
-same_number m n h = grind (arith, nat_tests)
-
-other_number : (m n : ℕ) → (m ≡ n → ⊥) → nat_eq m n ≡ false
-other_number m n f = at (nat_eq m n) refl
-  where
-    at : (b : Bool) → nat_eq m n ≡ b → b ≡ false
-    at true e = absurd (f (same_number m n e))
-    at false e = refl
-
 case_of : (b : Bool) (n x : ℕ) (xs : List ℕ) → nat_eq x n ≡ b → ((y : ℕ) → In y xs → x ≡ y → ⊥)
     → length xs ≡ length (filter (λ m. not (nat_eq m n)) xs) ⊎ (b ≡ false)
 case_of true n x xs e d = inl (kept_all n xs
-    (λ y i. other_number y n (λ s. d y i (same_number x n e ∙ sym s))))
+    (λ y i. ne_eqb y n (λ s. d y i (eqb-true x n e ∙ sym s))))
 case_of false n x xs e d = inr refl
 
 without_at : (b : Bool) (n x : ℕ) (xs : List ℕ)
@@ -146,10 +133,6 @@ pairs-filter p R S (x ∷ xs) r f =
 below_next : (n y : ℕ) → y < suc n → nat_eq y n ≡ false → y < n
 below_next n y h e = grind (arith, nat_tests)
 
-not_true : (b : Bool) → not b ≡ true → b ≡ false
-not_true true h = cc
-not_true false h = refl
-
 -- different numbers below a bound are at most so many
 pub distinct_below : (n : ℕ) (xs : List ℕ) → Pairs (λ a b. a ≡ b → ⊥) xs
     → ((x : ℕ) → In x xs → x < n) → length xs ≤ n
@@ -162,7 +145,7 @@ distinct_below (suc n) xs d f =
     (pairs-filter (λ m. not (nat_eq m n)) (λ a b. a ≡ b → ⊥) (λ a b. a ≡ b → ⊥) xs d
     (λ x y i j p q h. h))
     (λ x i. let k = in-filter (λ m. not (nat_eq m n)) x xs i in
-    below_next n x (f x k.0) (not_true (nat_eq x n) k.1)) in
+    below_next n x (f x k.0) (not-true (nat_eq x n) k.1)) in
     omega (arith, l, r)
 
 parts_at : {X : Type 0} (p : X → Bool) (b : Bool) (x : X) (xs : List X)

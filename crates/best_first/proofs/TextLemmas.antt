@@ -1,21 +1,13 @@
 -- Texts with an end, and a path's bytes.
-use Rattle.std.proofs.Common.{◌≡◌, ◌≤◌, ◌<◌, ◌+◌, ◌-◌, ℕ, zero, suc, Bool, true, false, not, ◌&&◌}
-use Rattle.std.proofs.Common.{cond, nat_eq, eqb, eq-eqb, ◌⊎◌, inl, inr, filter, map, List, [], ◌∷◌}
-use Rattle.std.proofs.Common.{◌++◌, length, get_or, append_assoc, refl, sym, ap, ◌∙◌, subst, arith}
-use Rattle.std.specs.Prelude.{bytes_eq}
-use Rattle.std.specs.List.{AllByRecursion}
-use Rattle.std.specs.Cmp.Lexicographic.{bytes_decides}
+use Rattle.std.proofs.Common.{◌≡◌, ℕ, Bool, true, false, cond, eqb, List, [], ◌∷◌, ◌++◌}
+use Rattle.std.proofs.Common.{append_assoc, refl, sym, ap, ◌∙◌, arith}
 use Rattle.std.specs.Int.{w32, to_be_bytes}
-use Rattle.sg_base.specs.Lists.{In, Pairs}
+use Rattle.std.proofs.lemmas.Bool.{and_parts}
 use Rattle.sg_base.specs.ByteStrings.{lacks, begins}
-use Rattle.best_first.specs.Lists.{passing}
 use Rattle.sg_paths.specs.AllPaths.{FullPath, path_bytes}
 use Rattle.sg_paths.proofs.ByteLemmas.{lacks_parts}
 use Rattle.path_desk.specs.Entries.{key_part}
-use Rattle.best_first.specs.Met.{IsAt}
-use Rattle.best_first.specs.PathMatches.{place_of, bytes_of}
-use Rattle.std.proofs.lemmas.Bool.{and_parts}
-use Rattle.fst_walk.proofs.BoolLemmas.{clash}
+use Rattle.best_first.specs.PathMatches.{bytes_of}
 
 -- texts with an end that stands in neither
 pub cut_same : (t : ℕ) (c d x y : List ℕ) → lacks t c ≡ true → lacks t d ≡ true

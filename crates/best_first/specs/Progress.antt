@@ -1,7 +1,7 @@
 -- What holds of a search between two steps. No public clause cites it. Source: this project's own.
-use Rattle.std.specs.Prelude.{ℕ, ◌≡◌, ◌≤◌, ◌+◌, true, false, ◌⊎◌, ⊤, List, [], ◌∷◌}
-use Rattle.std.specs.Prelude.{length, Option, Some, None}
 use Rattle.std.specs.Ordering.{is_lt}
+use Rattle.std.specs.Prelude.{ℕ, ◌≡◌, ◌≤◌, ◌+◌, true, false, ◌⊎◌, ⊤, List, [], ◌∷◌, length, Option}
+use Rattle.std.specs.Prelude.{Some, None}
 use Rattle.sg_base.specs.Cuts.{Mark, mark_cmp}
 use Rattle.sg_base.specs.Lists.{In, Pairs}
 use Rattle.path_desk.specs.Entries.{Queued, entry_cmp, mark_of}

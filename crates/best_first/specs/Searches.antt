@@ -2,7 +2,7 @@
 -- own.
 use Rattle.std.specs.Prelude.{ℕ, ◌≡◌, ◌<◌, List, length, get_or}
 use Rattle.sg_base.specs.declared.node.Edge.{Edge}
-use Rattle.sg_paths.specs.AllPaths.{Entry, FullPath, all_paths}
+use Rattle.sg_paths.specs.AllPaths.{FullPath, all_paths}
 use Rattle.sg_paths.specs.Operations.{PlainNumbered}
 use Rattle.path_desk.specs.Entries.{Queued}
 use Rattle.best_first.specs.Met.{IsMet}
