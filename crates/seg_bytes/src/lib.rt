@@ -7,6 +7,7 @@ mod error;
 mod field;
 mod laws;
 mod limits;
+mod writing;
 
 pub use error::ReadError;
 pub use laws::the_example_is_read;
