@@ -6,9 +6,12 @@
 mod error;
 mod field;
 mod laws;
+mod lengths;
 mod limits;
 mod writing;
 
 pub use error::ReadError;
 pub use laws::the_example_is_read;
+pub use lengths::documents_len;
 pub use limits::{MOST_SEQ, limits_are_exact};
+pub use writing::put_documents;
