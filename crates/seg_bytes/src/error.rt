@@ -1,4 +1,7 @@
 //! Why bytes are no documents.
+ghost use Rattle.std.specs.Prelude.{◌≡◌};
+
+use std::alloc::AllocError;
 use std::error::Error;
 use std::fmt;
 
@@ -8,6 +11,15 @@ pub enum ReadError {
     /// The offset where the first field that breaks begins; a length belongs to its field.
     Bad { at: u64 },
     Memory,
+}
+
+impl ReadError {
+    /// A field that begins at an offset breaks.
+    pub(crate) fn bad(at: usize) -> ReadError
+        ensures { result ≡ ReadError.Bad at }
+    {
+        ReadError::Bad { at: at as u64 }
+    }
 }
 
 impl fmt::Display for ReadError {
@@ -20,3 +32,14 @@ impl fmt::Display for ReadError {
 }
 
 impl Error for ReadError {}
+
+impl From<AllocError> for ReadError {
+    ghost use Rattle.seg_bytes.specs.declared.error.ReadError.TheVariants.{Memory};
+    ghost use Rattle.std.specs.Prelude.{◌≡◌};
+
+    ghost from_gives = { λ _ e. e ≡ Memory };
+
+    fn from(_error: AllocError) -> ReadError {
+        ReadError::Memory
+    }
+}

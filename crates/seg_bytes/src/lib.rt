@@ -5,6 +5,7 @@
 
 mod error;
 mod field;
+mod fields;
 mod laws;
 mod lengths;
 mod limits;
