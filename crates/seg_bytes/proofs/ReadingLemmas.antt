@@ -98,3 +98,9 @@ pub taken_refused : {A : Type 0} (test : A → Bool) (read : Reader A) (bytes : 
 taken_refused test read bytes at x end (Bad k) h t =
     tested_broken test read bytes at x end h t.0 ∙ ap broken (sym t.1)
 taken_refused test read bytes at x end Memory h t = tt
+
+-- a loop: what is out, continued by the items that are left, is the whole
+abbrev pub Continues : {A : Type 0} → Reader A → List ℕ → ℕ → ℕ → List A → ℕ → ℕ → Type 0
+Continues read bytes at count items end left =
+    many_at read count bytes at
+    ≡ then_read (many_at read left bytes end) (λ xs last. reads (items ++ xs) last)

@@ -42,7 +42,7 @@ abbrev pub may_be_suggestions : ℕ → Bool
 may_be_suggestions count = nat_le 1 count && nat_le count MOST_SUGGESTIONS
 
 -- a context behind its length
-unfoldable pub context_at : Reader (List ℕ)
+abbrev pub context_at : Reader (List ℕ)
 context_at = tested may_be_context (text_at w8)
 
 -- the text, the key, the weight and the contexts

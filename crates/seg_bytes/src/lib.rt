@@ -9,6 +9,9 @@ mod fields;
 mod laws;
 mod lengths;
 mod limits;
+mod reading;
+mod texts;
+mod values;
 mod writing;
 
 pub use error::ReadError;
