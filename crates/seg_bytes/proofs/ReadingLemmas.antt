@@ -1,7 +1,5 @@
 -- What is read of fields that were read or refused, one after another.
-use Rattle.std.proofs.Common.{◌≡◌, ◌≤◌, ◌<◌, ◌+◌, ◌-◌, ℕ, zero, suc, Bool, true, false, nat_le}
-use Rattle.std.proofs.Common.{List, [], ◌∷◌, ◌++◌, length, take, drop, sym, ap, ◌∙◌, refl, subst}
-use Rattle.std.proofs.Common.{arith}
+use Rattle.std.proofs.Common.{◌≡◌, ℕ, Bool, true, false, List, sym, ap, ◌∙◌, subst}
 use Rattle.std.specs.Prelude.{Result, Ok, Err, if◌then◌else◌}
 use Rattle.std.specs.Result.{IsErrAnd}
 use Rattle.std.specs.Int.{Width, byte_len, from_be_bytes}
@@ -10,7 +8,7 @@ use Rattle.seg_bytes.specs.declared.error.ReadError.TheVariants.{Bad, Memory}
 use Rattle.seg_bytes.specs.declared.field.Field.{Field}
 use Rattle.seg_bytes.specs.Answers.{Refuses, Reads, Takes}
 use Rattle.seg_bytes.specs.Fields.{Reading, Reader, reads, broken, then_read, part_at, number_at}
-use Rattle.seg_bytes.specs.Fields.{text_at, tested, many_at}
+use Rattle.seg_bytes.specs.Fields.{text_at, tested}
 
 -- the next goes on where the first ends
 pub then_is : {A B : Type 0} (given : Reading A) (x : A) (end : ℕ) (next : A → ℕ → Reading B)
@@ -98,9 +96,3 @@ pub taken_refused : {A : Type 0} (test : A → Bool) (read : Reader A) (bytes : 
 taken_refused test read bytes at x end (Bad k) h t =
     tested_broken test read bytes at x end h t.0 ∙ ap broken (sym t.1)
 taken_refused test read bytes at x end Memory h t = tt
-
--- a loop: what is out, continued by the items that are left, is the whole
-abbrev pub Continues : {A : Type 0} → Reader A → List ℕ → ℕ → ℕ → List A → ℕ → ℕ → Type 0
-Continues read bytes at count items end left =
-    many_at read count bytes at
-    ≡ then_read (many_at read left bytes end) (λ xs last. reads (items ++ xs) last)

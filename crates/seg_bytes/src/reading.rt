@@ -1,28 +1,21 @@
 //! Documents from bytes.
-#![tactic(
-    auto,
-    using(
-        crate::proofs::ReadingLemmas::refusal,
-        crate::proofs::ReadingLemmas::then_refused,
-        crate::proofs::ReadingLemmas::next_refused
-    )
-)]
-ghost use Rattle.std.specs.Prelude.{◌≡◌, ◌≤◌, ◌<◌, ◌+◌, ◌++◌, ◌∷◌, [], IfErr, IfOk, OnOk, length};
-ghost use Rattle.seg_bytes.specs.Answers.{Reads, Refuses};
-ghost use Rattle.seg_bytes.specs.DocumentsRead.{context_at as context_is, documents_at};
+ghost use Rattle.std.specs.Prelude.{◌≡◌, IfOk, length};
+ghost use Rattle.seg_bytes.specs.Answers.{Reads};
+ghost use Rattle.seg_bytes.specs.DocumentsRead.{context_at as context_is};
 ghost use Rattle.seg_bytes.specs.DocumentsRead.{document_at as document_is};
 ghost use Rattle.seg_bytes.specs.DocumentsRead.{suggestion_at as suggestion_is};
-ghost use Rattle.seg_bytes.specs.Fields.{many_at, reads};
+ghost use Rattle.seg_bytes.specs.Fields.{many_at};
 
 use crate::error::ReadError;
 use crate::field::Field;
 use crate::fields::u64_at;
+use crate::pushing::push;
 use crate::values::{
     context_at, context_count_at, id_at, key_at, suggestion_count_at, text_at, weight_at,
 };
 use sg_base::{Context, List};
 use sg_paths::{Document, Numbered, Suggestion};
-use std::alloc::{AllocError, Global};
+use std::alloc::Global;
 
 fn contexts_at(
     alloc: Global,
@@ -46,13 +39,6 @@ fn contexts_at(
     })
 }
 
-fn push<T: Drop>(items: &mut Vec<T>, item: T) -> Result<(), AllocError>
-    ensures { OnOk result (items.new.items ≡ items.old.items ++ item ∷ []) }
-{
-    items.push(item)?;
-    Ok(())
-}
-
 fn suggestion_at(alloc: Global, bytes: &[u8], at: usize) -> Result<Field<Suggestion>, ReadError>
     ensures { Reads (λ s. s) (suggestion_is bytes.now at) result }
 {
@@ -70,5 +56,48 @@ fn suggestion_at(alloc: Global, bytes: &[u8], at: usize) -> Result<Field<Suggest
     Ok(Field {
         value: suggestion,
         end: contexts.end,
+    })
+}
+
+fn suggestions_at(
+    alloc: Global,
+    bytes: &[u8],
+    at: usize,
+    count: u8,
+) -> Result<Field<Vec<Suggestion>>, ReadError>
+    ensures value { Reads (λ v. v.items) (many_at suggestion_is count bytes.now at) result }
+    ensures count { IfOk result (λ v. length v.value.items ≡ count) }
+{
+    let mut suggestions = Vec::new(alloc);
+    let mut end = at;
+    for _ in 0..count {
+        let suggestion = suggestion_at(alloc, bytes, end)?;
+        push(&mut suggestions, suggestion.value)?;
+        end = suggestion.end;
+    }
+    Ok(Field {
+        value: suggestions,
+        end,
+    })
+}
+
+/// A document with its number.
+pub(crate) fn document_at(alloc: Global, bytes: &[u8], at: usize) -> Result<Field<Numbered>, ReadError>
+    ensures { Reads (λ d. d) (document_is bytes.now at) result }
+{
+    let seq = u64_at(bytes, at)?;
+    let id = id_at(alloc, bytes, seq.end)?;
+    let count = suggestion_count_at(bytes, id.end)?;
+    let suggestions = suggestions_at(alloc, bytes, count.end, count.value)?;
+    let document = Document {
+        id: id.value,
+        suggestions: List::of(suggestions.value),
+    };
+    Ok(Field {
+        value: Numbered {
+            seq: seq.value,
+            document,
+        },
+        end: suggestions.end,
     })
 }
