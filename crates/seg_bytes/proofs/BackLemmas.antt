@@ -126,7 +126,7 @@ pub many_back : {A : Type 0} (read : Reader A) (by : A → List ℕ) (xs : List 
     → AllByRecursion (λ x. IsReadBack read (by x) x) xs
     → IsReadBack (many_at read (length xs)) (flat_map by xs) xs
 unfolding many_at
-many_back read by [] a before after = ap (reads []) (sym (add-zero (length before)))
+many_back read by [] a = λ before after. ap (reads []) (sym (add-zero (length before)))
 many_back read by (x ∷ xs) a =
     both read (λ y bytes at. then_read (many_at read (length xs) bytes at)
     (λ ys end. reads (y ∷ ys) end)) (by x) (flat_map by xs) x (x ∷ xs) a.0
