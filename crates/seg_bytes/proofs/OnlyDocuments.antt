@@ -1,5 +1,7 @@
 -- Documents that are read stand there as they are written.
-use Rattle.std.proofs.Common.{◌≡◌, ℕ, List, [], ◌∷◌, ◌++◌, length, sym, ap, ◌∙◌, subst}
+use Rattle.std.proofs.Common.{◌≡◌, ◌≤◌, ◌+◌, ℕ, List, [], ◌∷◌, ◌++◌, length, take, drop, sym, ap}
+use Rattle.std.proofs.Common.{subst, arith}
+use Rattle.std.proofs.lemmas.List.{length-take, length-drop}
 use Rattle.std.specs.List.{flat_map}
 use Rattle.std.specs.Int.{w8, w16, w32, w64, to_be_bytes}
 use Rattle.sg_paths.specs.Documents.{PlainSuggestion}
@@ -9,7 +11,7 @@ use Rattle.seg_bytes.specs.DocumentBytes.{short_bytes, suggestion_bytes, documen
 use Rattle.seg_bytes.specs.DocumentsRead.{may_be_text, may_be_key, may_be_weight, may_be_contexts}
 use Rattle.seg_bytes.specs.DocumentsRead.{may_be_context, may_be_id, may_be_suggestions}
 use Rattle.seg_bytes.specs.DocumentsRead.{context_at, suggestion_at, document_at}
-use Rattle.seg_bytes.specs.Laws.{OnlyWrittenIsRead}
+use Rattle.seg_bytes.specs.Laws.{OnlyWrittenIsRead, StandsAt}
 use Rattle.seg_bytes.proofs.OnlyLemmas.{AreBytes, Spans, IsOnlyWritten, same_value, same_end}
 use Rattle.seg_bytes.proofs.OnlyLemmas.{then_parts, joined, only_1, only_2, only_4, only_8}
 use Rattle.seg_bytes.proofs.OnlyLemmas.{text_only, tested_only, many_only}
@@ -96,3 +98,12 @@ pub documents_only : OnlyWrittenIsRead
 documents_only count bytes at docs end are h =
     let all = many_only document_at document_bytes document_only count bytes at docs end are h in
     (all.1, all.0.0, all.0.1)
+
+-- what stands there lies within
+pub stands_within : (part bytes : List ℕ) (at end : ℕ) → StandsAt part at bytes
+    → end ≡ at + length part → at ≤ length bytes → end ≤ length bytes
+stands_within part bytes at end h is le =
+    let a = ap length h in
+    let b = length-take (length part) (drop at bytes) in
+    let d = length-drop at bytes in
+    omega (arith, a, b, d, is, le)

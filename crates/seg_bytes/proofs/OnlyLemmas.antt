@@ -1,7 +1,7 @@
 -- Fields that are read stand there as they are written.
 use Rattle.std.proofs.Common.{◌≡◌, ◌≤◌, ◌<◌, ◌+◌, ◌-◌, ◌^◌, ℕ, zero, suc, Bool, true, false, List, []}
 use Rattle.std.proofs.Common.{◌∷◌, ◌++◌, ⊎_elim, length, take, drop, get_or, refl, sym, ap}
-use Rattle.std.proofs.Common.{◌∙◌, subst, arith, add-zero}
+use Rattle.std.proofs.Common.{◌∙◌, subst, arith, add-zero, Fits}
 use Rattle.std.proofs.lemmas.Bool.{leb-true, cases_lt}
 use Rattle.std.proofs.lemmas.List.{length-append, length-take-le, length-drop, get_or-take}
 use Rattle.std.proofs.lemmas.List.{get_or-drop, drop-drop, take-append-drop, get_or_past}
@@ -16,6 +16,10 @@ use Rattle.seg_bytes.specs.Laws.{StandsAt}
 -- each is a byte
 abbrev pub AreBytes : List ℕ → Type 0
 AreBytes bytes = (i : ℕ) → get_or bytes i 0 < 256
+
+-- those of a slice are
+pub bytes_of : (bytes : List ℕ) → ((i : ℕ) → Fits w8 (get_or bytes i 0)) → AreBytes bytes
+bytes_of bytes fits i = let h = fits i in omega (arith, h)
 
 -- these bytes stand there, up to an end
 abbrev pub Spans : List ℕ → ℕ → List ℕ → ℕ → Type 0
