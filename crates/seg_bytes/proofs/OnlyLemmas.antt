@@ -1,5 +1,5 @@
 -- Fields that are read stand there as they are written.
-use Rattle.std.proofs.Common.{◌≡◌, ◌≤◌, ◌<◌, ◌+◌, ◌-◌, ◌^◌, ℕ, zero, suc, Bool, true, false, List, []}
+use Rattle.std.proofs.Common.{◌≡◌, ◌≤◌, ◌<◌, ◌+◌, ℕ, zero, suc, Bool, true, false, List, []}
 use Rattle.std.proofs.Common.{◌∷◌, ◌++◌, ⊎_elim, length, take, drop, get_or, refl, sym, ap}
 use Rattle.std.proofs.Common.{◌∙◌, subst, arith, add-zero, Fits}
 use Rattle.std.proofs.lemmas.Bool.{leb-true, cases_lt}
@@ -72,13 +72,14 @@ pub joined : (p q bytes : List ℕ) (at mid end : ℕ) → Spans p at bytes mid 
     → Spans (p ++ q) at bytes end
 joined p q bytes at mid end h k =
     let split : drop at bytes ≡ p ++ drop mid bytes =
-        sym (take-append-drop (length p) (drop at bytes))
-        ∙ ap (λ z. z ++ drop (length p) (drop at bytes)) h.0
-        ∙ ap (λ z. p ++ z) (drop-drop (length p) at bytes ∙ ap (λ n. drop n bytes) (sym h.1)) in
+    sym (take-append-drop (length p) (drop at bytes))
+    ∙ ap (λ z. z ++ drop (length p) (drop at bytes)) h.0
+    ∙ ap (λ z. p ++ z) (drop-drop (length p) at bytes ∙ ap (λ n. drop n bytes) (sym h.1)) in
     let all : end ≡ at + length (p ++ q) =
-        (let l = length-append p q in let a = h.1 in let b = k.1 in omega (arith, l, a, b)) in
-    (ap (take (length (p ++ q))) split ∙ take_over p q (drop mid bytes) ∙ ap (λ z. p ++ z) k.0,
-    all)
+    (let l = length-append p q in let a = h.1 in let b = k.1 in omega (arith, l, a, b)) in (
+      ap (take (length (p ++ q))) split ∙ take_over p q (drop mid bytes) ∙ ap (λ z. p ++ z) k.0,
+      all,
+    )
 
 -- a part
 part_cases : (start n : ℕ) (bytes : List ℕ) (at : ℕ) (x : List ℕ) (end : ℕ) (fits : Bool)
@@ -87,14 +88,18 @@ part_cases : (start n : ℕ) (bytes : List ℕ) (at : ℕ) (x : List ℕ) (end :
     → Spans x at bytes end × (length x ≡ n)
 part_cases start n bytes at x end true fits h =
     let is : take n (drop at bytes) ≡ x =
-        same_value (take n (drop at bytes)) x (at + n) end h in
+    same_value (take n (drop at bytes)) x (at + n) end h in
     let le = leb-true (at + n) (length bytes) fits in
     let left = length-drop at bytes in
     let enough : n ≤ length (drop at bytes) = omega (arith, le, left) in
     let len : length x ≡ n =
-        ap length (sym is) ∙ length-take-le n (drop at bytes) enough in
-    ((ap (λ m. take m (drop at bytes)) len ∙ is,
-    sym (same_end (take n (drop at bytes)) x (at + n) end h) ∙ ap (λ m. at + m) (sym len)), len)
+    ap length (sym is) ∙ length-take-le n (drop at bytes) enough in (
+      (
+        ap (λ m. take m (drop at bytes)) len ∙ is,
+        sym (same_end (take n (drop at bytes)) x (at + n) end h) ∙ ap (λ m. at + m) (sym len),
+      ),
+      len,
+    )
 part_cases start n bytes at x end false fits h = absurd (not_broken start x end h)
 
 pub part_only : (start n : ℕ) (bytes : List ℕ) (at : ℕ) (x : List ℕ) (end : ℕ)
@@ -124,7 +129,7 @@ number_only w by back bytes at n end are h =
     let mid = parts.1.0 in
     let part = part_only at (byte_len w) bytes at b mid parts.1.1.0 in
     let is : by n ≡ b = back b n part.1 (part_bytes b at bytes part.0.0 are)
-        (sym (same_value (from_be_bytes w b) n mid end parts.1.1.1)) in
+    (sym (same_value (from_be_bytes w b) n mid end parts.1.1.1)) in
     subst (λ z. Spans z at bytes end) (sym is)
     (part.0.0, sym (same_end (from_be_bytes w b) n mid end parts.1.1.1) ∙ part.0.1)
 
@@ -191,7 +196,7 @@ many_only read by only (suc n) bytes at xs end are h =
     let last = rest.1.0 in
     let behind = many_only read by only n bytes next ys last are rest.1.1.0 in
     let all = joined (by x) (flat_map by ys) bytes at next last
-        (only bytes at x next are first.1.1.0) behind.0 in
+    (only bytes at x next are first.1.1.0) behind.0 in
     let len = behind.1 in
     subst (λ zs. Spans (flat_map by zs) at bytes end × (length zs ≡ suc n))
     (same_value (x ∷ ys) xs last end rest.1.1.1)

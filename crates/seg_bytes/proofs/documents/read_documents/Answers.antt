@@ -23,5 +23,5 @@ returns-clause-within c le =
     let all = c.in_ok-all.all in
     let bytes = c.args.bytes.now in
     let only = documents_only c.args.count bytes c.args.at all.value.items all.end
-        (bytes_of bytes c.type_inv.bytes) c.in_ok-all.ensures.value in
+    (bytes_of bytes c.type_inv.bytes) c.in_ok-all.ensures.value in
     stands_within (documents_bytes all.value.items) bytes c.args.at all.end only.1 only.2 le
