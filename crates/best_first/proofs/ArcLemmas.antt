@@ -113,8 +113,10 @@ module _ (s : Setting) (t : List (List Edge)) (ps : List FullPath) (g : IsGround
     context = k.context;
     at = k.at;
     boost = k.boost;
-    is_node = let low = arc_low s t ps g p.entry.node.0 (inside p k) a i in let h =
-        inside p k in omega (arith, low, h);
+    is_node =
+        let low = arc_low s t ps g p.entry.node.0 (inside p k) a i in
+        let h = inside p k in
+        omega (arith, low, h);
     meets = met_place p k a i;
     score = (over-child (all_matches s ps) (tails t) p (arcs_of t p.entry.node.0)
         (over_of s t ps g p k)

@@ -22,8 +22,9 @@ use Rattle.best_first.proofs.Overs.{no_way, score_at, IsSpread, IsOver}
 -- scores
 
 less_costs : (b c c' : ℕ) → c ≤ c' → (MOST_WEIGHT - c') * b ≤ (MOST_WEIGHT - c) * b
-less_costs b c c' h = let l : MOST_WEIGHT - c' ≤ MOST_WEIGHT - c =
-    omega (arith, h) in mul-le-mul_right b l
+less_costs b c c' h =
+    let l : MOST_WEIGHT - c' ≤ MOST_WEIGHT - c = omega (arith, h) in
+    mul-le-mul_right b l
 
 pub best-over : (all : List Match) (ways : ℕ → List Tail) (p : Queued) → IsOver all ways p
     → Best all p
@@ -56,12 +57,14 @@ one_label : (a b : Edge) (edges : List Edge) → Pairs (λ x y. x.label < y.labe
     → In b edges → a.label ≡ b.label → a ≡ b
 one_label a b [] up i j e = elim i [ ]
 one_label a b (x ∷ xs) up (inl i) (inl j) e = i ∙ sym j
-one_label a b (x ∷ xs) up (inl i) (inr j) e = let l : x.label < b.label =
-    up.0 b j in let q : a.label ≡ x.label =
-    ap (λ (z : Edge). z.label) i in absurd (omega (arith, l, q, e))
-one_label a b (x ∷ xs) up (inr i) (inl j) e = let l : x.label < a.label =
-    up.0 a i in let q : b.label ≡ x.label =
-    ap (λ (z : Edge). z.label) j in absurd (omega (arith, l, q, e))
+one_label a b (x ∷ xs) up (inl i) (inr j) e =
+    let l : x.label < b.label = up.0 b j in
+    let q : a.label ≡ x.label = ap (λ (z : Edge). z.label) i in
+    absurd (omega (arith, l, q, e))
+one_label a b (x ∷ xs) up (inr i) (inl j) e =
+    let l : x.label < a.label = up.0 a i in
+    let q : b.label ≡ x.label = ap (λ (z : Edge). z.label) j in
+    absurd (omega (arith, l, q, e))
 one_label a b (x ∷ xs) up (inr i) (inr j) e = one_label a b xs up.1 i j e
 
 longer : (p : List ℕ) (l : ℕ) (more : List ℕ) → p ++ (l ∷ more) ≡ (p ++ l ∷ []) ++ more

@@ -130,7 +130,10 @@ module _ (all : List Match) (P : Queued → Type 0) (reached : List Match) (room
         → cond (covers m c) 1 0 + passing (λ u. covers m u.now)
         older + (passing (covers m) siblings + (passing (covers m) waiting + passing (covers m)
         s.dropped)) ≡ 1
-    choose_cover m i = let h = cover_now m i in let g = f.parted m i in omega (arith, h, g)
+    choose_cover m i =
+        let h = cover_now m i in
+        let g = f.parted m i in
+        omega (arith, h, g)
 
     choose_sound : (u : Taken) → In u (goes_on c t ∷ older) → Best all u.now × P u.now
     choose_sound u (inl h) = subst (λ z. Best all z.now × P z.now) (sym h) f.child_sound

@@ -35,16 +35,18 @@ pub beside-find : {X Y : Type 0} (R : X → Y → Type 0) (x : X) (xs : List X) 
 beside-find R x [] ys h i = elim i [ ]
 beside-find R x (z ∷ xs) [] h i = elim h [ ]
 beside-find {X} {Y} R x (z ∷ xs) (y ∷ ys) h (inl i) = (y, inl refl, subst (λ w. R w y) (sym i) h.0)
-beside-find R x (z ∷ xs) (y ∷ ys) h (inr i) = let r =
-    beside-find R x xs ys h.1 i in (r.0, inr r.1, r.2)
+beside-find R x (z ∷ xs) (y ∷ ys) h (inr i) =
+    let r = beside-find R x xs ys h.1 i in
+    (r.0, inr r.1, r.2)
 
 pub beside-back : {X Y : Type 0} (R : X → Y → Type 0) (y : Y) (xs : List X) (ys : List Y)
     → Beside R xs ys → In y ys → (x : X) × In x xs × R x y
 beside-back R y xs [] h i = elim i [ ]
 beside-back R y [] (z ∷ ys) h i = elim h [ ]
 beside-back {X} {Y} R y (x ∷ xs) (z ∷ ys) h (inl i) = (x, inl refl, subst (λ w. R x w) (sym i) h.0)
-beside-back R y (x ∷ xs) (z ∷ ys) h (inr i) = let r =
-    beside-back R y xs ys h.1 i in (r.0, inr r.1, r.2)
+beside-back R y (x ∷ xs) (z ∷ ys) h (inr i) =
+    let r = beside-back R y xs ys h.1 i in
+    (r.0, inr r.1, r.2)
 
 -- ranks of live ones
 
@@ -66,8 +68,9 @@ ranks_in_at : (b : Bool) (n m : Match) (ms : List Match) → m.live ≡ b → n.
     → In n.rank (map (λ o. o.rank) (cond b (m ∷ filter (λ o. o.live) ms) (filter (λ o. o.live) ms)))
 ranks_in_at true n m ms e l more (inl h) = inl (ap (λ o. o.rank) h)
 ranks_in_at true n m ms e l more (inr h) = inr (more h)
-ranks_in_at false n m ms e l more (inl h) = let no : true ≡ false =
-    sym l ∙ ap (λ o. o.live) h ∙ e in cc
+ranks_in_at false n m ms e l more (inl h) =
+    let no : true ≡ false = sym l ∙ ap (λ o. o.live) h ∙ e in
+    cc
 ranks_in_at false n m ms e l more (inr h) = more h
 
 pub ranks_of-in : (n : Match) (ms : List Match) → n.live ≡ true → In n ms → In n.rank (ranks_of ms)

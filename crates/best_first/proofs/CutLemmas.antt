@@ -189,8 +189,10 @@ module _ (all : List Match) (P : Queued → Type 0) (reached : List Match) (room
   good_count : length goods ≤ passing up_to all
   good_count =
       let h = spread up_to (λ m (t : Taken). covers m t.now) all goods
-      (λ m i. let c = s.cover m i in let p =
-      passing-filter good (λ (t : Taken). covers m t.now) s.taken in omega (arith, c, p))
+      (λ m i.
+      let c = s.cover m i in
+      let p = passing-filter good (λ (t : Taken). covers m t.now) s.taken in
+      omega (arith, c, p))
       (λ t i. let k = in-filter good t s.taken i in
       let e = beside-find (λ (u : Taken) n. Ends all u.now n) t s.taken reached s.ended k.0 in (
         e.0,

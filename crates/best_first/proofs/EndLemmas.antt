@@ -100,8 +100,10 @@ module _ (all : List Match) (P : Queued → Type 0) (reached : List Match) (star
           omega (arith, n, m)
 
       few_at : Fails → length (filter pre rows) < k
-      few_at (inl h) = let x = fewer pre h.0 rows h.1 h.2 in let y =
-          rows_length in omega (arith, x, y)
+      few_at (inl h) =
+          let x = fewer pre h.0 rows h.1 h.2 in
+          let y = rows_length in
+          omega (arith, x, y)
       few_at (inr h) = let x = filter_at_most pre rows in omega (arith, x, h)
 
       front_at : Fails → filter pre (take k (ranked (ranks_of reached)))

@@ -35,8 +35,10 @@ none_later x (y ∷ ys) l up e =
   where
     at_y : (c : Bool) → nat_eq y.label l ≡ c → passing (λ (u : Edge). nat_eq u.label l) ys ≡ 0
         → cond c 1 0 + passing (λ (u : Edge). nat_eq u.label l) ys ≡ 0
-    at_y true q h = let low : x.label < y.label = up y (inl refl) in let same : y.label ≡ l =
-        eqb-true y.label l q in absurd (omega (arith, low, same, e))
+    at_y true q h =
+        let low : x.label < y.label = up y (inl refl) in
+        let same : y.label ≡ l = eqb-true y.label l q in
+        absurd (omega (arith, low, same, e))
     at_y false q h = omega (arith, h)
 
 -- one of rising labels is each of them once

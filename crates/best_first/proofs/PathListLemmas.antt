@@ -103,8 +103,9 @@ leads_of false false c e f p q r h = cc
 
 tests_of : (e f : Entry) → Leads e f
     → (nat_lt f.weight e.weight || (nat_eq e.weight f.weight && nat_lt e.doc f.doc)) ≡ true
-tests_of e f (inl h) = let l : nat_lt f.weight e.weight ≡ true =
-    grind (arith, nat_tests) in rw l refl
+tests_of e f (inl h) =
+    let l : nat_lt f.weight e.weight ≡ true = grind (arith, nat_tests) in
+    rw l refl
 tests_of e f (inr h) =
     let w = h.0 in
     let d = h.1 in
@@ -189,7 +190,10 @@ numbers_lead ds p r i j c k l =
 
 pub few_entries : (ds : List PlainNumbered) → AreDocuments ds
     → length (path_entries 0 ds) ≤ 4194304
-few_entries ds a = let l = length-all_paths ds in let f = a.few in omega (arith, l, f)
+few_entries ds a =
+    let l = length-all_paths ds in
+    let f = a.few in
+    omega (arith, l, f)
 
 pub is_path_list : (ds : List PlainNumbered) → AreDocuments ds → IsPathList (all_paths ds)
 is_path_list ds a =

@@ -40,8 +40,9 @@ pub record IsAround (y : Match) (xs : List Match) : Type 0 where
 around : (y : Match) (xs : List Match) → In y xs → IsAround y xs
 around y [] i = elim i [ ]
 around y (x ∷ xs) (inl i) = record { us = []; vs = xs; is = ap (λ z. z ∷ xs) (sym i) }
-around y (x ∷ xs) (inr i) = let r =
-    around y xs i in record { us = x ∷ r.us; vs = r.vs; is = ap (λ zs. x ∷ zs) r.is }
+around y (x ∷ xs) (inr i) =
+    let r = around y xs i in
+    record { us = x ∷ r.us; vs = r.vs; is = ap (λ zs. x ∷ zs) r.is }
 
 in_around : (x y : Match) (us vs : List Match) → In x (us ++ y ∷ vs) → (x ≡ y) ⊎ In x (us ++ vs)
 in_around x y us vs i =
@@ -67,8 +68,10 @@ not_again x y (u ∷ us) vs d (inl i) e = d.0 y (in-right y us (y ∷ vs) (inl r
 not_again x y (u ∷ us) vs d (inr i) e = not_again x y us vs d.1 i e
 
 length_around : (y : Match) (us vs : List Match) → length (us ++ y ∷ vs) ≡ suc (length (us ++ vs))
-length_around y us vs = let a = length-append us (y ∷ vs) in let b =
-    length-append us vs in omega (arith, a, b)
+length_around y us vs =
+    let a = length-append us (y ∷ vs) in
+    let b = length-append us vs in
+    omega (arith, a, b)
 
 -- each of the order is one of these, or stands behind all of them
 abbrev pub IsFront : List Match → List Match → Type 0

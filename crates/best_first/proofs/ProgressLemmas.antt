@@ -132,8 +132,10 @@ module _ (all : List Match) (P : Queued → Type 0) (reached : List Match) (room
         → passing (λ t. covers m t.now)
         p.taken + (passing (covers m) pending + (passing (covers m)
         (put_in entry_cmp x waiting) + passing (covers m) p.dropped)) ≡ 1
-    room_cover m i = let h = p.cover m i in let e =
-        passing-put (covers m) x waiting in omega (arith, h, e)
+    room_cover m i =
+        let h = p.cover m i in
+        let e = passing-put (covers m) x waiting in
+        omega (arith, h, e)
 
     no_member : (d : Queued) (ds : List Queued) → ds ≡ [] → In d ds → ⊥
     no_member d ds e i = subst (λ z. In d z) e i
@@ -271,7 +273,10 @@ module _ (all : List Match) (P : Queued → Type 0) (reached : List Match) (room
         rising = pairs-but_last (λ a b. entry_lt a b ≡ true) y ys all_rising;
         before = full_before;
         is_first = full_first first p.is_first;
-        fits = let e = full_length in let h = p.fits in omega (arith, e, h);
+        fits =
+            let e = full_length in
+            let h = p.fits in
+            omega (arith, e, h);
         full = inr (let e = full_length in let h = p.fits in omega (arith, e, h, l));
         start_order = p.start_order;
         start_left = λ t e i h s. p.start_left t e i (full_left e h) s;

@@ -85,8 +85,9 @@ fails pre down x y h n =
 filter-none : (pre : Rank → Bool) (xs : List Rank) → ((e : Rank) → In e xs → pre e ≡ false)
     → filter pre xs ≡ []
 filter-none pre [] f = refl
-filter-none pre (x ∷ xs) f = let h =
-    f x (inl refl) in rw h (filter-none pre xs (λ e i. f e (inr i)))
+filter-none pre (x ∷ xs) f =
+    let h = f x (inl refl) in
+    rw h (filter-none pre xs (λ e i. f e (inr i)))
 
 behind_all : (r x e : Rank) (xs : List Rank) → Ascending (x ∷ xs) → rank_lt x r ≡ false
     → In e (x ∷ xs) → rank_lt e r ≡ false
@@ -188,8 +189,10 @@ fewer pre w (x ∷ xs) (inr i) n =
 one_less_at : (b : Bool) (x : Rank) (n : ℕ) (xs : List Rank) → nat_eq x.seq n ≡ b
     → ((y : Rank) → In y xs → nat_eq x.seq y.seq ≡ false) → length xs ≤ length (without n xs) + 1
     → length (x ∷ xs) ≤ length (cond (not b) (x ∷ without n xs) (without n xs)) + 1
-one_less_at true x n xs is f h = let e : length (without n xs) ≡ length xs =
-    ap length (without-others n xs (others_from x n xs is f)) in omega (arith, e)
+one_less_at true x n xs is f h =
+    let e : length (without n xs) ≡ length xs =
+    ap length (without-others n xs (others_from x n xs is f)) in
+    omega (arith, e)
 one_less_at false x n xs is f h = omega (arith, h)
 
 one_less : (n : ℕ) (xs : List Rank) → Once xs → length xs ≤ length (without n xs) + 1

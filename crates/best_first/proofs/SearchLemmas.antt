@@ -129,8 +129,9 @@ front_of (w ∷ ws) vs a (suc k) q = ap (λ zs. w ∷ zs) (front_of ws vs a k (o
 
 pub front-range : {X : Type 0} (us vs : List X) (a : X) (n : ℕ) → length us ≡ n
     → take (n - 0) (drop 0 (us ++ a ∷ vs)) ≡ us
-front-range us vs a n e = let f : n - 0 ≡ n =
-    omega arith in ap (λ k. take k (us ++ a ∷ vs)) f ∙ front_of us vs a n e
+front-range us vs a n e =
+    let f : n - 0 ≡ n = omega arith in
+    ap (λ k. take k (us ++ a ∷ vs)) f ∙ front_of us vs a n e
 
 behind : {X : Type 0} (ws vs : List X) (a : X) (k : ℕ) → length ws ≡ k
     → drop (suc k) (ws ++ a ∷ vs) ≡ vs

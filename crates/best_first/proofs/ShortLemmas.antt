@@ -44,10 +44,12 @@ two_at true p x y z zs is d px py (inl i) (inl j) more fx fy = absurd (d (i ∙ 
 two_at true p x y z zs is d px py (inl i) (inr j) more fx fy = let h = fy j in omega (arith, h)
 two_at true p x y z zs is d px py (inr i) (inl j) more fx fy = let h = fx i in omega (arith, h)
 two_at true p x y z zs is d px py (inr i) (inr j) more fx fy = let h = more i j in omega (arith, h)
-two_at false p x y z zs is d px py (inl i) j more fx fy = let never : true ≡ false =
-    sym px ∙ ap p i ∙ is in cc
-two_at false p x y z zs is d px py (inr i) (inl j) more fx fy = let never : true ≡ false =
-    sym py ∙ ap p j ∙ is in cc
+two_at false p x y z zs is d px py (inl i) j more fx fy =
+    let never : true ≡ false = sym px ∙ ap p i ∙ is in
+    cc
+two_at false p x y z zs is d px py (inr i) (inl j) more fx fy =
+    let never : true ≡ false = sym py ∙ ap p j ∙ is in
+    cc
 two_at false p x y z zs is d px py (inr i) (inr j) more fx fy = let h = more i j in omega (arith, h)
 
 passing-two : (p : Queued → Bool) (x y : Queued) (zs : List Queued) → (x ≡ y → ⊥) → p x ≡ true
@@ -183,8 +185,11 @@ module _ (all order : List Match) (P : Queued → Type 0) (reached : List Match)
           f.entry.score refl (first.1 x over_next.1)
 
       score_is : f.entry.score ≡ next.rank.score
-      score_is = let q = score_low in let r = score_mid in let t =
-          score_high in omega (arith, q, r, t)
+      score_is =
+          let q = score_low in
+          let r = score_mid in
+          let t = score_high in
+          omega (arith, q, r, t)
 
       abbrev under : Queued → Match → Queued
       under e m = queued (record {

@@ -47,8 +47,10 @@ swapped P c (m ∷ ms) es =
 least : {E : Type 0} (f : E → ℕ) (es : List E) → ((e : E) → In e es → 1 ≤ f e)
     → length es ≤ total f es
 least f [] a = omega arith
-least f (e ∷ es) a = let h = least f es (λ d i. a d (inr i)) in let k : 1 ≤ f e =
-    a e (inl refl) in omega arith
+least f (e ∷ es) a =
+    let h = least f es (λ d i. a d (inr i)) in
+    let k : 1 ≤ f e = a e (inl refl) in
+    omega arith
 
 most_at : (p : Bool) (n : ℕ) → n ≤ 1 → cond p n 0 ≤ cond p 1 0
 most_at true n h = h
@@ -57,8 +59,10 @@ most_at false n h = omega arith
 most : {M : Type 0} (P : M → Bool) (f : M → ℕ) (ms : List M) → ((m : M) → In m ms → f m ≤ 1)
     → total (λ m. cond (P m) (f m) 0) ms ≤ total (λ m. cond (P m) 1 0) ms
 most P f [] a = omega arith
-most P f (m ∷ ms) a = let h = most P f ms (λ d i. a d (inr i)) in let k =
-    most_at (P m) (f m) (a m (inl refl)) in omega arith
+most P f (m ∷ ms) a =
+    let h = most P f ms (λ d i. a d (inr i)) in
+    let k = most_at (P m) (f m) (a m (inl refl)) in
+    omega arith
 
 -- entries that share no path, each with a path that passes, are at most as many as the paths that
 -- pass
@@ -68,9 +72,11 @@ pub spread : {M E : Type 0} (P : M → Bool) (c : M → E → Bool) (ms : List M
     → length es ≤ passing P ms
 spread {M} {E} P c ms es one some =
     let l = least (λ e. total (λ m. cond (P m && c m e) 1 0) ms) es
-    (λ e i. let w = some e i in let h =
-    passing-in (λ m. P m && c m e) w.0 ms w.1 (and_from (P w.0) (c w.0 e) w.2 w.3) in
-    let t = passing-total (λ m. P m && c m e) ms in omega (arith, h, t)) in
+    (λ e i.
+    let w = some e i in
+    let h = passing-in (λ m. P m && c m e) w.0 ms w.1 (and_from (P w.0) (c w.0 e) w.2 w.3) in
+    let t = passing-total (λ m. P m && c m e) ms in
+    omega (arith, h, t)) in
     let h = most P (λ m. total (λ e. cond (c m e) 1 0) es) ms
     (λ m i. let k = one m i in let t = passing-total (c m) es in omega (arith, k, t)) in
     let e = swapped P c ms es in
