@@ -32,18 +32,22 @@ use Rattle.best_first.proofs.Overs.{IsSpread, IsOver}
 use Rattle.best_first.proofs.StartLemmas.{at_one, at_in, at_place, number_of}
 use Rattle.best_first.proofs.TextLemmas.{cut_same, regroup, begins_key, key_begins}
 
--- what a place says of members
+-- a path that begins so goes on from the place
+abbrev pub GoesOn : List Tail → List ℕ → ℕ → Tail → Type 0
+GoesOn ways b c t = (v : Tail) × In v ways × (t.0 ≡ b ++ v.0) × (t.1 ≡ c + v.1)
+
 pub under_place : (paths : List Tail) (ways : ℕ → List Tail) (b : List ℕ) (n c o : ℕ) (t : Tail)
-    → IsPlace paths ways b n c o
-    → In t paths → begins b t.0 ≡ true → (v : Tail) × In v (ways n) × (t ≡ (b ++ v.0, c + v.1))
+    → IsPlace paths ways b n c o → In t paths → begins b t.0 ≡ true → GoesOn (ways n) b c t
 under_place paths ways b n c o t at i h =
     let j : In t ((at.before ++ behind b c (ways n)) ++ at.after) = subst (In t) at.is i in
     elim (in-append t (at.before ++ behind b c (ways n)) at.after j) as
-    (λ _. (v : Tail) × In v (ways n) × (t ≡ (b ++ v.0, c + v.1))) [
-      | inl k ↦ elim (in-append t at.before (behind b c (ways n)) k) as
-          (λ _. (v : Tail) × In v (ways n) × (t ≡ (b ++ v.0, c + v.1))) [
+    (λ _. GoesOn (ways n) b c t) [
+      | inl k ↦
+          elim (in-append t at.before (behind b c (ways n)) k) as (λ _. GoesOn (ways n) b c t) [
             | inl l ↦ absurd (out (in-left t at.before at.after l))
-            | inr l ↦ in-map (λ (v : Tail). (b ++ v.0, c + v.1)) t (ways n) l
+            | inr l ↦
+                let r = in-map (λ (v : Tail). (b ++ v.0, c + v.1)) t (ways n) l in
+                (r.0, r.1, ap (λ (z : Tail). z.0) r.2, ap (λ (z : Tail). z.1) r.2)
           ]
       | inr k ↦ absurd (out (in-right t at.before at.after k))
     ]
@@ -201,11 +205,11 @@ module _ (s : Setting) (t : List (List Edge)) (ps : List FullPath) (g : IsGround
         let v = under_place (root_paths t) (tails t) (k.context ++ 29 ∷ p.bytes) p.entry.node.0
         p.entry.cost p.entry.ordinal (tail_of f.0) k.meets (at_path f.0 f.1) begun in
         let bytes : path_bytes f.0 ≡ k.context ++ 29 ∷ (p.bytes ++ v.0.0) =
-        ap (λ (z : Tail). z.0) v.2 ∙ longer k.context p.bytes v.0.0 in
+        v.2 ∙ longer k.context p.bytes v.0.0 in
         let under = path_under k.context (p.bytes ++ v.0.0) p.entry.start p.entry.boost f.0 f.1 k.at
         k.boost (key_begins s.query.prefix p.bytes v.0.0 k.under) bytes in
         let cost : p.entry.cost + v.0.1 ≡ MOST_WEIGHT - f.0.entry.weight =
-        sym (ap (λ (z : Tail). z.1) v.2) in
+        sym v.3 in
         let weight =
         from_weight f.0.entry.weight (p.entry.cost + v.0.1) (g.paths.light f.0 f.1) cost in (
           v.0,
