@@ -1,4 +1,4 @@
--- From an entry over a spot to those behind its arcs, and to the end.
+-- From an entry over a cursor to those behind its arcs, and to the end.
 use Rattle.std.proofs.Common.{◌≡◌, ◌≤◌, ◌<◌, ◌+◌, ◌-◌, ◌*◌, ℕ, zero, suc, Bool, true, false, eqb}
 use Rattle.std.proofs.Common.{eqb-true, inl, inr, map, List, [], ◌∷◌, ◌++◌, length, length-append}
 use Rattle.std.proofs.Common.{get_or, append_assoc, refl, sym, ap, ◌∙◌, subst, arith}

@@ -164,7 +164,7 @@ module _ (s : Setting) (t : List (List Edge)) (ps : List FullPath) (g : IsGround
   longer : (c b v : List ℕ) → (c ++ 29 ∷ b) ++ v ≡ c ++ 29 ∷ (b ++ v)
   longer c b v = append_assoc c (29 ∷ b) v
 
-  -- an entry over a spot lies over the matching paths of its node's ways
+  -- an entry over a cursor lies over the matching paths of its node's ways
   pub over_of : (p : Queued) → IsMet s t p → IsOver (all_matches s ps) (tails t) p
   over_of p k = record {
     score_is = k.score;
