@@ -36,6 +36,7 @@ pub mod LoadLemmas
 pub mod SumLemmas
 pub mod CountLemmas
 pub mod AnswerLemmas
+pub mod FollowLemmas
 pub mod AskedLemmas
 pub mod OrderedLemmas
 pub mod PathOrderLemmas
@@ -43,3 +44,4 @@ pub mod LiveLemmas
 pub mod SpentLemmas
 pub mod ReportLemmas
 pub mod WholeLemmas
+pub mod EndingLemmas

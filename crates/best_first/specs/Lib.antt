@@ -12,3 +12,5 @@ pub mod PathMatches
 pub mod Met
 pub mod Roots
 pub mod Searches
+pub mod Hits
+pub mod Followed

@@ -1,8 +1,8 @@
 -- What the calls of a queue do, from their callees' clauses.
-use Rattle.std.proofs.Common.{◌≡◌, ◌≤◌, ◌<◌, ◌+◌, ℕ, zero, suc, Bool, true, false, List, [], ◌∷◌}
-use Rattle.std.proofs.Common.{◌++◌, length, length-append, refl, sym, ap, ◌∙◌, subst, arith, Result}
+use Rattle.std.proofs.Common.{◌≡◌, ◌≤◌, ◌+◌, ℕ, false, List, [], ◌∷◌}
+use Rattle.std.proofs.Common.{◌++◌, length, length-append, sym, ap, ◌∙◌, subst, arith, Result}
 use Rattle.std.proofs.Common.{Ok, Err, OnOk}
-use Rattle.std.specs.Prelude.{insert, Option, Some, None}
+use Rattle.std.specs.Prelude.{insert, Option, Some}
 use Rattle.sg_base.specs.Ranking.{put_in}
 use Rattle.path_desk.specs.Entries.{Queued, entry_cmp}
 use Rattle.path_desk.specs.Orders.{InOrder}

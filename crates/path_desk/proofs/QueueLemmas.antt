@@ -1,13 +1,12 @@
 -- Queues in order: where an entry goes, and that they stay in order.
-use Rattle.std.proofs.Common.{◌≡◌, ◌≤◌, ◌<◌, ◌+◌, ℕ, zero, suc, Bool, true, false, cond, nat_eq}
-use Rattle.std.proofs.Common.{◌&&◌, List, [], ◌∷◌, ◌++◌, length, take, drop, refl, sym, ap, ◌∙◌}
-use Rattle.std.proofs.Common.{subst, arith, add-one}
-use Rattle.std.specs.Prelude.{slice_index_or, insert, Option, Some, None}
+use Rattle.std.proofs.Common.{◌≡◌, ◌≤◌, ◌<◌, ◌+◌, ℕ, zero, suc, Bool, true, false, cond}
+use Rattle.std.proofs.Common.{List, [], ◌∷◌, ◌++◌, length, refl, sym, ap, ◌∙◌}
+use Rattle.std.proofs.Common.{arith}
+use Rattle.std.specs.Prelude.{slice_index_or, insert, Option, Some}
 use Rattle.std.specs.List.{AllByRecursion}
 use Rattle.std.specs.List.Sorted.{IsPartitionPoint, IsPartitionedBy}
-use Rattle.std.specs.Ordering.{is_lt}
 use Rattle.sg_base.specs.Ranking.{put_in}
-use Rattle.sg_base.proofs.Orders.{below_at_most, at_most_trans, weaken, at_most_below}
+use Rattle.sg_base.proofs.Orders.{at_most_trans, weaken, at_most_below}
 use Rattle.path_desk.specs.Entries.{Queued, entry_cmp}
 use Rattle.path_desk.specs.Orders.{InOrder}
 use Rattle.path_desk.specs.Desks.{but_last, last_of, shed, queue, first_of, put_queued}

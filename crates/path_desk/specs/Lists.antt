@@ -1,6 +1,6 @@
 -- The lists of hits that a desk keeps. No public clause cites it. Source: this project's own.
-use Rattle.std.specs.Prelude.{ℕ, ◌≡◌, ◌≤◌, ◌+◌, ◌&&◌, ⊤, nat_le, nat_lt, if◌then◌else◌}
-use Rattle.std.specs.Prelude.{List, [], Option, Some, None}
+use Rattle.std.specs.Prelude.{ℕ, ◌+◌, ◌&&◌, nat_le, nat_lt, if◌then◌else◌}
+use Rattle.std.specs.Prelude.{Option, Some, None}
 
 -- how many lists there are, and the places that each has at least
 pub record PlainLists : Type 0 where

@@ -1,6 +1,6 @@
 -- Within a start all bytes decide, and between starts the rest doesn't matter.
 use Rattle.std.proofs.Common.{◌∙◌, sym}
-use Rattle.path_desk.proofs.OrderLemmas.{tie_cmp-same_start, tie_cmp-other_start}
+use Rattle.path_desk.proofs.OrderLemmas.{tie_cmp-same_start}
 use Rattle.path_desk.proofs.held.tie_cmp.Goals as goal
 
 pub returns-then-a_start-b_start : goal.returns-then-a_start-b_start
