@@ -4,7 +4,6 @@ use Rattle.std.proofs.Common.{map, refl, sym, ap, ◌∙◌, subst}
 use Rattle.std.specs.List.{filter}
 use Rattle.std.specs.Prelude.{None}
 use Rattle.std.proofs.lemmas.List.{append-nil}
-use Rattle.sg_base.specs.Ranking.{IsKept}
 use Rattle.sg_base.specs.Rows.{ranked, put_row}
 use Rattle.sg_base.specs.declared.node.Edge.{Edge}
 use Rattle.sg_base.specs.declared.rank.Rank.{Rank}
@@ -117,6 +116,3 @@ between-begin all P nodes match_at roots prefix seg d0 d1 d2 room k q1 q2 =
       ap (λ z. z.room) is ∙ room-put_all (cleared d0 room) xs,
       ap (λ z. z.reached) is ∙ reached-put_all (cleared d0 room) xs,
     )
-
-pub kept-none : (rows : List Rank) → rows ≡ [] → IsKept rows
-kept-none rows e = subst IsKept (sym e) (record { ascending = tt; once = tt })

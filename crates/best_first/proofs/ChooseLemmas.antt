@@ -20,18 +20,11 @@ use Rattle.best_first.proofs.ListLemmas.{passing-in}
 abbrev goes_on : Queued → Taken → Taken
 goes_on c t = record { now = c; was = t.was }
 
-abbrev moved_on : Queued → List Taken → List Taken
-moved_on c [] = []
-moved_on c (t ∷ older) = goes_on c t ∷ older
-
 -- fields that speak of the taken ones, over a list with a first one
 module _ (all : List Match) (P : Queued → Type 0) (reached : List Match) (room : ℕ) (p c : Queued)
     (siblings waiting : List Queued) (count : ℕ) (first : Option Queued)
     (s : Progress all P reached room [] waiting count first (Some p))
     (f : IsFamily all P p c siblings) where
-  abbrev Before : List Taken → Type 0
-  Before ts = s.taken ≡ ts
-
   under : (e : Queued) → IsChild p e → mark_lt (mark_of e) (mark_of p) ≡ false
   under e h = mark_of-under p e (h.0 ∷ []) h.2 h.3
 

@@ -85,11 +85,6 @@ module _ (all : List Match) (P : Queued → Type 0) (reached : List Match) (room
   abbrev pub OverLeft : Match → Type 0
   OverLeft m = (e : Queued) × (In e waiting ⊎ In e s.dropped) × (covers m e ≡ true)
 
-  left_at : (m : Match) (a b c : ℕ) → passing (λ t. covers m t.now) s.taken ≡ a
-      → passing (covers m) waiting ≡ b → passing (covers m) s.dropped ≡ c → a + (0 + (b + c)) ≡ 1
-      → In m reached ⊎ OverLeft m → In m reached ⊎ OverLeft m
-  left_at m a b c p q r h k = k
-
   reached_match : (m : Match) → In m all → 1 ≤ passing (λ t. covers m t.now) s.taken → In m reached
   reached_match m i h =
       let t = passing-some (λ (u : Taken). covers m u.now) s.taken h in

@@ -31,10 +31,6 @@ no_member d ds e i = subst (λ z. In d z) e i
 at_least : (a b : ℕ) → a ≤ b → nat_le a b ≡ true
 at_least a b h = grind (arith, nat_tests)
 
-one_of : (b : Bool) (n : ℕ) → b ≡ true → cond b 1 0 ≤ n → 1 ≤ n
-one_of true n e h = h
-one_of false n e h = cc
-
 counted_at : (b : Bool) (n : ℕ) → (b ≡ true → 1 ≤ n) → cond b 1 0 ≤ n
 counted_at true n h = h refl
 counted_at false n h = omega arith

@@ -1,5 +1,5 @@
 -- A search of documents that is done, or whose queue is empty, answers what a search must.
-use Rattle.std.proofs.Common.{◌≡◌, ◌≤◌, ◌<◌, ◌∙◌, ℕ, Bool, true, false, List, [], length, map, sym, ap}
+use Rattle.std.proofs.Common.{◌≡◌, ◌≤◌, ◌<◌, ◌∙◌, ℕ, Bool, true, false, List, [], length, map, sym}
 use Rattle.std.proofs.Common.{arith, not, ◌&&◌, eqb, refl, ◌∷◌}
 use Rattle.std.specs.Prelude.{Option, None, option_map, nat_le}
 use Rattle.std.specs.List.{list_all}

@@ -67,12 +67,6 @@ grown_at Equal Equal c c' f g l more = more l
 grown_at Equal Greater c c' f g l more = absurd (cc (g refl))
 grown_at Greater o' c c' f g l more = absurd (cc l)
 
-scores_less : (a b b' : ℕ) → b' ≤ b → nat_cmp b a ≡ Less → nat_cmp b' a ≡ Less
-scores_less a b b' l e = grind (arith, nat_tests)
-
-scores_equal : (a b b' : ℕ) → b' ≤ b → nat_cmp b a ≡ Equal → is_le (nat_cmp b' a) ≡ true
-scores_equal a b b' l e = grind (arith, nat_tests)
-
 scores_equal_to : (a a' b b' : ℕ) → a' ≡ a → b' ≤ b → nat_cmp b a ≡ Less → nat_cmp b' a' ≡ Less
 scores_equal_to a a' b b' e l h = grind (arith, nat_tests)
 

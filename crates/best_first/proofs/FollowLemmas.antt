@@ -1,5 +1,5 @@
 -- What is known of the entry at which a path is followed.
-use Rattle.std.proofs.Common.{◌≡◌, ◌<◌, ◌+◌, ◌-◌, ◌∷◌, ◌++◌, ℕ, List, length, map, take, drop, sym}
+use Rattle.std.proofs.Common.{◌≡◌, ◌<◌, ◌+◌, ◌-◌, ℕ, List, length, map, take, drop, sym}
 use Rattle.std.proofs.Common.{subst, [], Bool, ap, ◌∙◌}
 use Rattle.std.specs.Prelude.{slice_index_or}
 use Rattle.sg_base.specs.Lists.{In}

@@ -1,5 +1,5 @@
 -- Each start that is given is put in, until none is left.
-use Rattle.std.proofs.Common.{true, ◌≡◌, ◌∙◌, ap, sym, subst, refl, arith, [], ◌≤◌, ◌<◌, ◌+◌, length}
+use Rattle.std.proofs.Common.{true, ◌≡◌, ◌∙◌, ap, subst, refl, arith, []}
 use Rattle.sg_base.specs.ByteStrings.{lacks}
 use Rattle.sg_context.specs.Queries.{PlainQuery, IsQuery}
 use Rattle.best_first.specs.Roots.{Loading}

@@ -1,10 +1,10 @@
 -- The search keeps what holds between two paths, and ends where it is done or its queue is empty.
-use Rattle.std.proofs.Common.{◌≡◌, ◌∙◌, ap, sym, subst}
+use Rattle.std.proofs.Common.{◌∙◌, ap, sym, subst}
 use Rattle.std.specs.Prelude.{option_map}
 use Rattle.sg_paths.specs.AllPaths.{all_paths}
 use Rattle.path_desk.specs.Desks.{cut_at}
 use Rattle.collector.specs.Hits.{row_of}
-use Rattle.best_first.specs.Followed.{FollowsPath, ClosesAs, setting}
+use Rattle.best_first.specs.Followed.{setting}
 use Rattle.best_first.specs.Met.{IsMet}
 use Rattle.best_first.specs.PathMatches.{all_matches}
 use Rattle.best_first.specs.Segments.{Follows}

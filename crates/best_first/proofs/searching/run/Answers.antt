@@ -1,5 +1,5 @@
 -- The starts are put in, and then nothing is reached yet.
-use Rattle.std.proofs.Common.{◌≡◌, ◌∙◌, List, [], map, ap, sym, subst}
+use Rattle.std.proofs.Common.{◌∙◌, List, [], map, ap, sym, subst}
 use Rattle.std.specs.Prelude.{nat_le}
 use Rattle.sg_base.specs.declared.rank.Rank.{Rank}
 use Rattle.fst_walk.specs.Starts.{most_steps}

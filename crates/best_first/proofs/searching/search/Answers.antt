@@ -1,7 +1,6 @@
 -- The queue has the size of the segment.
-use Rattle.std.proofs.Common.{◌≡◌, ◌≤◌, ◌<◌, ◌+◌, ◌*◌, ℕ, length, ap, subst, arith}
+use Rattle.std.proofs.Common.{◌≤◌, ◌+◌, ◌*◌, ap, subst, arith}
 use Rattle.sg_paths.specs.AllPaths.{all_paths}
-use Rattle.sg_answers.specs.Reports.{live_of}
 use Rattle.fst_walk.specs.Starts.{most_steps}
 use Rattle.best_first.specs.PathMatches.{path_tails}
 use Rattle.best_first.specs.Steps.{most_bytes}
