@@ -12,7 +12,7 @@ use Rattle.path_desk.specs.Entries.{Queued}
 use Rattle.path_desk.specs.declared.entry.Entry.{Entry}
 use Rattle.collector.specs.Tops.{PlainReport, report, preceding, closed}
 use Rattle.collector.proofs.ListLemmas.{map-length}
-use Rattle.best_first.specs.Ends.{last_row, is_done, IsReport, IsCutShort}
+use Rattle.best_first.specs.Ends.{last_row, is_done, IsOutcome, IsCutShort}
 use Rattle.best_first.specs.Exact.{IsInOrder, IsExact}
 use Rattle.best_first.specs.Matches.{Match}
 use Rattle.best_first.specs.Segments.{Between, IsSegment}
@@ -52,7 +52,7 @@ closed-short k row hits cut few =
 -- what a search answers: its report over the matching paths, and the exact rule with one start
 pub record Answers (all : List Match) (prefix : List ℕ) (starts k room generation : ℕ)
     (rows : List Rank) (cut : Option PlainCut) : Type 0 where
-  pub report : IsReport all prefix starts k room generation rows cut
+  pub report : IsOutcome all prefix starts k room generation rows cut
   pub exact : starts ≤ 1 → (order : List Match) → IsInOrder all order → IsExact order k room cut
 
 module _ (all : List Match) (P : Queued → Type 0) (nodes : List (List Edge))

@@ -60,7 +60,8 @@ module _ (s : Setting) (nodes : List (List Edge)) (ds : List PlainNumbered) (r :
   suggestion z = f.searches.suggestion e.ordinal no_path (ordinal z)
 
   pub ends : e.node.0 ≡ 0
-      → Ends (all_matches s (all_paths ds)) (queued e (path_of d)) (match_at s (all_paths ds) e.ordinal)
+      → Ends (all_matches s (all_paths ds)) (queued e (path_of d))
+      (match_at s (all_paths ds) e.ordinal)
   ends z = f.searches.knows.end (queued e (path_of d)) met z
 
   pub end_score : e.node.0 ≡ 0 → (match_at s (all_paths ds) e.ordinal).rank.score ≡ e.score

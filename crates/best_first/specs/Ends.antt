@@ -37,8 +37,8 @@ pub record IsCutShort (all : List Match) (prefix : List ℕ) (starts k room gene
   pub up_to : room + 1
       ≤ passing (λ m. not (is_lt (mark_cmp (cut_mark cut) (mark_of_match m)))) all + starts
 
--- a report of a search: without a truncation point it has the first k rows of all
-abbrev pub IsReport : List Match → List ℕ → ℕ → ℕ → ℕ → ℕ → List Rank → Option PlainCut → Type 0
-IsReport all prefix starts k room generation rows None = rows ≡ take k (ranked (ranks_of all))
-IsReport all prefix starts k room generation rows (Some cut) =
+-- the outcome of a search: without a truncation point it has the first k rows of all
+abbrev pub IsOutcome : List Match → List ℕ → ℕ → ℕ → ℕ → ℕ → List Rank → Option PlainCut → Type 0
+IsOutcome all prefix starts k room generation rows None = rows ≡ take k (ranked (ranks_of all))
+IsOutcome all prefix starts k room generation rows (Some cut) =
     IsCutShort all prefix starts k room generation rows cut
