@@ -1,5 +1,5 @@
 -- A search of documents that is done, or whose queue is empty, answers what a search must.
-use Rattle.std.proofs.Common.{◌≡◌, ◌≤◌, ◌<◌, ◌∙◌, ℕ, Bool, true, false, List, [], length, map, sym, ap}
+use Rattle.std.proofs.Common.{◌≡◌, ◌≤◌, ◌<◌, ◌∙◌, ℕ, Bool, true, false, List, [], length, map, sym}
 use Rattle.std.proofs.Common.{arith, not, ◌&&◌, eqb, refl, ◌∷◌}
 use Rattle.std.specs.Prelude.{Option, None, option_map, nat_le}
 use Rattle.std.specs.List.{list_all}
@@ -73,8 +73,8 @@ module _ (query : PlainQuery) (nodes : List (List Edge)) (ds : List PlainNumbere
 
   search_from : (cut : Option PlainCut)
       → Answers (all_matches (setting query nodes ds marks) (all_paths ds)) query.prefix
-          (length begun.roots) k d.room generation (map row (closed k row hits cut).hits)
-          (closed k row hits cut).cut
+      (length begun.roots) k d.room generation (map row (closed k row hits cut).hits)
+      (closed k row hits cut).cut
       → ClosesAs query (viewed_segment generation ds marks) k row hits cut
   search_from cut h = search_of query ds marks nodes generation begun.roots begun.documents
       begun.mapping begun.is_query begun.key begun.are_roots live k d.room same room

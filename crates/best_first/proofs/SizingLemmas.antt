@@ -1,6 +1,6 @@
 -- The queue size of a segment from its numbers, the steps of a search, and the hits of its report.
-use Rattle.std.proofs.Common.{◌≡◌, ◌≤◌, ◌<◌, ◌+◌, ◌*◌, ◌∙◌, ℕ, Bool, true, false, List, [], ◌∷◌, length}
-use Rattle.std.proofs.Common.{map, cond, max, refl, sym, ap, subst, arith}
+use Rattle.std.proofs.Common.{◌≡◌, ◌≤◌, ◌+◌, ◌*◌, ◌∙◌, ℕ, Bool, true, false, List, [], ◌∷◌, length}
+use Rattle.std.proofs.Common.{map, cond, max, refl, sym, ap, arith}
 use Rattle.std.specs.Prelude.{Option, Some, None, All, slice_index_or, nat_le, fold}
 use Rattle.std.specs.List.{filter}
 use Rattle.std.proofs.lemmas.Bool.Decides.{nat_tests}
@@ -14,7 +14,7 @@ use Rattle.sg_answers.specs.Reports.{live_of, viewed_segment, queue_size, queue_
 use Rattle.sg_answers.specs.Reports.{most_paths}
 use Rattle.seg_live.specs.LiveDocs.{live_count}
 use Rattle.seg_table.specs.Owners.{greatest}
-use Rattle.collector.specs.Tops.{PlainReport, closed, preceding, report}
+use Rattle.collector.specs.Tops.{closed, preceding, report}
 use Rattle.collector.proofs.ListLemmas.{index-in, all-member}
 use Rattle.best_first.specs.Lists.{passing}
 use Rattle.best_first.proofs.LiveLemmas.{length-live_of}

@@ -7,6 +7,7 @@ use Rattle.sg_context.specs.Queries.{PlainQuery}
 use Rattle.sg_paths.specs.Documents.{PlainSuggestion}
 use Rattle.sg_paths.specs.Operations.{PlainNumbered}
 use Rattle.sg_answers.specs.Reports.{ViewedSegment, most_paths, queue_size_of, queue_size}
+use Rattle.sg_answers.specs.Reports.{IsReport, IsSoundOver}
 use Rattle.sg_answers.specs.Reports.{matching, asked_contexts, IsSpent, IsSearch}
 use Rattle.sg_answers.specs.Closing.{Searched, first_cut, kept_rows, closed_rows, closed_cut}
 
@@ -132,6 +133,37 @@ pub record IsSpentOnDeletedPaths : Type 0 where
   pub another_score :
       IsSearch (first_of (codes "ort")) heavy_deleted [] (Some (cut_at 3 (codes "ort") 2 2)) → ⊥
 
+-- ---- two contexts, one score: how near a truncation point must be
+
+-- the live ones, which differ in their keys
+abbrev last_three : List PlainNumbered
+last_three =
+    document 2 (suggestion (codes "abd") 5 (codes "b" ∷ []) ∷ [])
+    ∷ document 3 (suggestion (codes "abe") 5 (codes "a" ∷ []) ∷ [])
+    ∷ document 4 (suggestion (codes "abf") 5 (codes "b" ∷ []) ∷ []) ∷ []
+
+-- all
+abbrev one_score : List PlainNumbered
+one_score = document 1 (suggestion (codes "abc") 5 (codes "a" ∷ []) ∷ []) ∷ last_three
+
+-- their segment
+abbrev pub level : ViewedSegment
+level = record { generation = 6; documents = one_score; live = last_three }
+
+-- the first two rows
+abbrev pub two_of : List ℕ → PlainQuery
+two_of prefix = record { prefix = prefix; contexts = []; k = 2 }
+
+-- what a search of it may find, and what it may not: its queue has room for three, so with two
+-- contexts two paths must stand at its truncation point or before it
+pub record IsNearEnough : Type 0 where
+  pub queue : queue_size 2 level ≡ 3
+  pub near : IsSearch (two_of (codes "ab")) level [] (Some (cut_at 5 (codes "abd") 6 3))
+  pub too_early :
+      IsSearch (two_of (codes "ab")) level [] (Some (cut_at 5 (codes "ab") 6 3)) → ⊥
+  pub a_row_lost :
+      IsSearch (two_of (codes "ab")) level [] (Some (cut_at 5 (codes "abe") 6 3)) → ⊥
+
 -- ---- queue sizes by numbers, truncation points, and views
 
 -- 6,000 documents of which 500 are live; with twice as many paths; two of two; a tenth more
@@ -160,7 +192,7 @@ spent_search =
     record { segment = heavy_deleted; rows = []; cut = Some (cut_at 2 (codes "ort") 2 2) }
 
 -- that of a segment of one live document with this weight
-abbrev found : ℕ → Searched
+abbrev pub found : ℕ → Searched
 found weight =
     let ds = document 9 (suggestion (codes "ort") weight [] ∷ []) ∷ [] in
     record {
@@ -189,11 +221,57 @@ pub record ViewsClose : Type 0 where
         cut = Some (cut_at 2 (codes "ort") 1 9);
       } ∷ []) ≡ Some (cut_at 2 (codes "ort") 1 9)
 
+-- of six documents the two of least weight are live
+abbrev lightest : List PlainNumbered
+lightest =
+    document 5 (suggestion (codes "ort") 2 [] ∷ [])
+    ∷ document 6 (suggestion (codes "ort") 1 [] ∷ []) ∷ []
+
+-- the search of their segment, in whose queue three deleted ones stand, and another one is next
+abbrev pub buried : Searched
+buried = record {
+  segment = record {
+    generation = 4;
+    documents =
+        document 1 (suggestion (codes "ort") 6 [] ∷ [])
+        ∷ document 2 (suggestion (codes "ort") 5 [] ∷ [])
+        ∷ document 3 (suggestion (codes "ort") 4 [] ∷ [])
+        ∷ document 4 (suggestion (codes "ort") 3 [] ∷ []) ∷ lightest;
+    live = lightest;
+  };
+  rows = [];
+  cut = Some (cut_at 3 (codes "ort") 4 3);
+}
+
+-- the segments of a view, of which the second has one document of this weight
+abbrev pub with_another : ℕ → List ViewedSegment
+with_another weight = buried.segment ∷ (found weight).segment ∷ []
+
+-- what a report of a view may be, and what it may not: the segment whose queue is spent forces a
+-- truncation point where no row of at least its next path's score is found
+pub record ViewsAreForced : Type 0 where
+  pub complete :
+      IsReport (first_of (codes "ort")) (with_another 4) (row 4 (codes "ort") 9 ∷ []) None
+  pub truncated :
+      IsReport (first_of (codes "ort")) (with_another 1) [] (Some (cut_at 3 (codes "ort") 4 3))
+  pub not_truncated :
+      IsReport (first_of (codes "ort")) (with_another 1) (row 2 (codes "ort") 5 ∷ []) None → ⊥
+
+-- what is so of a truncation point where the segments aren't known: its room is at least k
+pub record OverAllDocuments : Type 0 where
+  pub truncated :
+      IsSoundOver (first_of (codes "ort")) four lighter [] (Some (cut_at 2 (codes "ort") 2 2))
+  pub too_little_room :
+      IsSoundOver (first_of (codes "ort")) four lighter [] (Some (cut_at 4 (codes "ort") 2 0)) → ⊥
+
 -- all of them
 pub record WorkedReports : Type 0 where
   pub last_of_twelve : FindsTheLastOfTwelve
   pub tie : BreaksATieAcrossContexts
   pub spent : IsSpentOnDeletedPaths
+  pub near : IsNearEnough
   pub sizes : QueueSizes
   pub precedence : Precedence
   pub views : ViewsClose
+  pub forced : ViewsAreForced
+  pub over_all : OverAllDocuments

@@ -1,5 +1,5 @@
 -- The starts are put in, and then nothing is reached yet.
-use Rattle.std.proofs.Common.{◌≡◌, ◌∙◌, List, [], map, ap, sym, subst}
+use Rattle.std.proofs.Common.{◌∙◌, List, [], map, ap, sym, subst}
 use Rattle.std.specs.Prelude.{nat_le}
 use Rattle.sg_base.specs.declared.rank.Rank.{Rank}
 use Rattle.fst_walk.specs.Starts.{most_steps}
@@ -16,12 +16,14 @@ reach_all-requires-clause-between g c =
     let nodes = g.S.SegParts.nodes c.args.parts.now in
     let ds = g.S.SegParts.listed c.args.parts.now in
     let e = c.in_ok-starts.ensures in
-    let row = row_of (g.S.Keys.key_of c.args.parts.now) in
-    ([], subst (λ (rows : List Rank). BetweenPaths c.args.query.now nodes ds c.args.live.now []
-        c.args.top.now.k c.load_starts.new.desk rows) (sym (ap (map row) c.requires.empty))
-        (begun c.args.query.now nodes ds c.args.live.now e.stands e.query e.loaded.0 e.loaded.1
-        c.args.desk.now c.begin.new.self c.load_starts.new.desk c.args.room c.args.top.now.k
-        c.begin.ensures e.loaded.2).0)
+    let row = row_of (g.S.Keys.key_of c.args.parts.now) in (
+      [],
+      subst (λ (rows : List Rank). BetweenPaths c.args.query.now nodes ds c.args.live.now []
+          c.args.top.now.k c.load_starts.new.desk rows) (sym (ap (map row) c.requires.empty))
+          (begun c.args.query.now nodes ds c.args.live.now e.stands e.query e.loaded.0 e.loaded.1
+          c.args.desk.now c.begin.new.self c.load_starts.new.desk c.args.room c.args.top.now.k
+          c.begin.ensures e.loaded.2).0,
+    )
 
 pub reach_all-requires-clause-room : goal.reach_all-requires-clause-room
 reach_all-requires-clause-room g c =

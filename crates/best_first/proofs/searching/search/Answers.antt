@@ -1,7 +1,6 @@
 -- The queue has the size of the segment.
-use Rattle.std.proofs.Common.{◌≡◌, ◌≤◌, ◌<◌, ◌+◌, ◌*◌, ℕ, length, ap, subst, arith}
+use Rattle.std.proofs.Common.{◌≤◌, ◌+◌, ◌*◌, ap, subst, arith}
 use Rattle.sg_paths.specs.AllPaths.{all_paths}
-use Rattle.sg_answers.specs.Reports.{live_of}
 use Rattle.fst_walk.specs.Starts.{most_steps}
 use Rattle.best_first.specs.PathMatches.{path_tails}
 use Rattle.best_first.specs.Steps.{most_bytes}
@@ -25,7 +24,7 @@ pub returns-in-Ok-clause-ticks : goal.returns-in-Ok-clause-ticks
 returns-in-Ok-clause-ticks g c =
     let tails = path_tails (all_paths (g.S.SegParts.listed c.args.parts.now)) in
     subst (λ room. c.run.new.steps ≤ c.args.steps.now + (most_steps tails c.args.query.now
-        + room * (most_bytes tails + 1)))
+    + room * (most_bytes tails + 1)))
     (size-of c.queue_size-room.result c.query.inside.k c.args.query.now.k c.most_paths.result
     c.documents.result c.count.result c.args.generation (g.S.SegParts.listed c.args.parts.now)
     c.args.live.now c.queue_size-room.ensures (ap (λ q. q.k) c.query.view_is) c.most_paths.ensures
@@ -36,7 +35,7 @@ pub returns-in-Err-clause-ticks : goal.returns-in-Err-clause-ticks
 returns-in-Err-clause-ticks g c =
     let tails = path_tails (all_paths (g.S.SegParts.listed c.args.parts.now)) in
     subst (λ room. c.run.new.steps ≤ c.args.steps.now + (most_steps tails c.args.query.now
-        + room * (most_bytes tails + 1)))
+    + room * (most_bytes tails + 1)))
     (size-of c.queue_size-room.result c.query.inside.k c.args.query.now.k c.most_paths.result
     c.documents.result c.count.result c.args.generation (g.S.SegParts.listed c.args.parts.now)
     c.args.live.now c.queue_size-room.ensures (ap (λ q. q.k) c.query.view_is) c.most_paths.ensures

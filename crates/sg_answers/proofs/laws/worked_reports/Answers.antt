@@ -1,15 +1,18 @@
 -- Each value computes, and what isn't a report breaks one of its sentences.
-use Rattle.std.proofs.Common.{◌≡◌, ◌<◌, ◌∙◌, ℕ, true, false, Some, None, List, [], ◌∷◌}
+use Rattle.std.proofs.Common.{inl, ◌≤◌, ◌≡◌, ◌<◌, ◌∙◌, ℕ, true, false, Some, None, List, [], ◌∷◌}
 use Rattle.std.proofs.Common.{length, refl, sym, ap, subst, arith, codes}
 use Rattle.sg_base.specs.Cuts.{PlainCut}
 use Rattle.sg_base.specs.declared.rank.Rank.{Rank}
 use Rattle.sg_context.specs.Queries.{PlainQuery}
-use Rattle.sg_answers.specs.Reports.{ViewedSegment, IsTruncatedIn, IsSearch}
+use Rattle.sg_answers.specs.Reports.{ViewedSegment, IsTruncatedIn, IsSpent, IsSearch, Forces}
 use Rattle.sg_answers.specs.WorkedReports.{first_of, cut_at, narrow, heavy_deleted}
 use Rattle.sg_answers.specs.WorkedReports.{FindsTheLastOfTwelve, BreaksATieAcrossContexts}
 use Rattle.sg_answers.specs.WorkedReports.{IsSpentOnDeletedPaths, QueueSizes, Precedence}
-use Rattle.sg_answers.specs.WorkedReports.{ViewsClose}
-use Rattle.sg_answers.proofs.ClosingLemmas.{only_one}
+use Rattle.sg_answers.specs.WorkedReports.{ViewsClose, IsNearEnough, ViewsAreForced}
+use Rattle.sg_answers.specs.WorkedReports.{OverAllDocuments, level, two_of, buried, found}
+use Rattle.sg_answers.specs.WorkedReports.{with_another}
+use Rattle.sg_answers.specs.Closing.{IsSearched}
+use Rattle.sg_answers.proofs.ClosingLemmas.{only_one, closes_soundly}
 use Rattle.sg_answers.proofs.laws.worked_reports.Goals as goal
 
 none_differs : {A : Type 0} (x : A) → None ≡ Some x → ⊥
@@ -118,6 +121,26 @@ spent = record {
       omega (arith, wrong);
 }
 
+level_truncated : IsTruncatedIn (two_of (codes "ab")) level (cut_at 5 (codes "abd") 6 3)
+level_truncated = record {
+  generation = refl;
+  has_live = omega arith;
+  room = refl;
+  point = record { crowded = omega arith; in_query = refl; met = refl; upto = omega arith };
+}
+
+near : IsNearEnough
+near = record {
+  queue = refl;
+  near = record {
+    sound = (refl, omega arith, (level, (0, omega arith, refl), level_truncated));
+    exact = λ one. absurd (two_contexts one);
+  };
+  too_early = λ search.
+      let wrong : 3 < 2 = (its_own _ level _ _ search).point.upto in omega (arith, wrong);
+  a_row_lost = λ search. lengths _ _ search.sound.0 (omega arith);
+}
+
 sizes : QueueSizes
 sizes = record {
   most = refl;
@@ -148,12 +171,82 @@ views = record {
   lesser_generation = refl;
 }
 
+-- the searches of the segments of a view
+buried_truncated : IsTruncatedIn (first_of (codes "ort")) buried.segment (cut_at 3 (codes "ort") 4 3)
+buried_truncated = record {
+  generation = refl;
+  has_live = omega arith;
+  room = refl;
+  point = record { crowded = omega arith; in_query = refl; met = refl; upto = omega arith };
+}
+
+-- the path after the three
+abbrev fourth_row : Rank
+fourth_row = record { score = 3; key = codes "ort"; seq = 4; place = 0 }
+
+fourth_next : IsSpent (first_of (codes "ort")) buried.segment fourth_row
+fourth_next = record { next = refl; few = omega arith }
+
+buried_searched : IsSearched (first_of (codes "ort")) buried
+buried_searched = inl (
+  omega arith,
+  record {
+    sound = (refl, omega arith, (buried.segment, (0, omega arith, refl), buried_truncated));
+    exact = λ one. record { next = fourth_row; spent = fourth_next; score = refl; key = refl };
+  },
+)
+
+found_one : IsSearched (first_of (codes "ort")) (found 1)
+found_one = inl (
+  omega arith,
+  record {
+    sound = refl;
+    exact = λ one next spent. none_differs next spent.next;
+  },
+)
+
+found_four : IsSearched (first_of (codes "ort")) (found 4)
+found_four = inl (
+  omega arith,
+  record {
+    sound = refl;
+    exact = λ one next spent. none_differs next spent.next;
+  },
+)
+
+forces : Forces (first_of (codes "ort")) (with_another 1) buried.segment fourth_row
+forces = record {
+  is_in = (0, omega arith, refl);
+  has_live = omega arith;
+  one_context = refl;
+  spent = fourth_next;
+  few = omega arith;
+}
+
+forced : ViewsAreForced
+forced = record {
+  complete = closes_soundly (first_of (codes "ort")) (buried ∷ found 4 ∷ [])
+      (buried_searched, (found_four, tt));
+  truncated = closes_soundly (first_of (codes "ort")) (buried ∷ found 1 ∷ [])
+      (buried_searched, (found_one, tt));
+  not_truncated = λ report. false_differs (report.must buried.segment fourth_row forces);
+}
+
+over_all : OverAllDocuments
+over_all = record {
+  truncated = (refl, omega arith, omega arith, omega arith, heavy_deleted_truncated.point);
+  too_little_room = λ sound. let wrong : 1 ≤ 0 = sound.2 in omega (arith, wrong);
+}
+
 pub returns : goal.returns
 returns c = record {
   last_of_twelve = last_of_twelve;
   tie = tie;
   spent = spent;
+  near = near;
   sizes = sizes;
   precedence = precedence;
   views = views;
+  forced = forced;
+  over_all = over_all;
 }
