@@ -234,6 +234,7 @@ impl Desk {
         ensures empty { result.items ≡ [] }
         ensures places { self.old.need.k ≤ vec_capacity result }
         ensures desk { with_lists self.new (self.new.lists + 1) ≡ self.old }
+        ensures most { self.new.lists < 2 }
     {
         self.lists.take()
     }

@@ -79,6 +79,7 @@ impl Lists {
         ensures empty { result.items ≡ [] }
         ensures places { self.old.places ≤ vec_capacity result }
         ensures rest { lists_of self.new.places (self.new.count + 1) ≡ self.old }
+        ensures most { self.new.count < 2 }
     {
         if let Some(hits) = self.second.take() {
             return hits;

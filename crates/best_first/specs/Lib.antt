@@ -1,0 +1,16 @@
+pub mod Lists
+pub mod Matches
+pub mod Families
+pub mod Listings
+pub mod Progress
+pub mod Steps
+pub mod Segments
+pub mod Ends
+pub mod Exact
+pub mod PathMatches
+pub mod Parts
+pub mod Met
+pub mod Roots
+pub mod Searches
+pub mod Hits
+pub mod Followed
