@@ -1,0 +1,28 @@
+-- One more, one that is refused, and the last.
+use Rattle.std.proofs.Common.{◌+◌, sym, subst, arith}
+use Rattle.std.proofs.lemmas.Grind.{common_steps}
+use Rattle.seg_bytes.specs.DocumentsRead.{context_at}
+use Rattle.seg_bytes.proofs.ReadingLemmas.{refusal}
+use Rattle.seg_bytes.proofs.ManyLemmas.{Continues, one_more, one_refused, all_read}
+use Rattle.seg_bytes.proofs.reading.contexts_at.Goals as goal
+
+pub returns-in_err-context-clause-value : goal.returns-in_err-context-clause-value
+returns-in_err-context-clause-value c =
+    refusal _ _ c.from_residual.result _ c.from_residual.ensures.1
+    (one_refused context_at c.args.bytes.now c.args.at c.args.count c.loop.contexts.items c.loop.end
+    c.loop.counter _ c.loop-test.true c.in_err-context.ensures c.loop.invariant.0)
+
+pub loop-preserved : goal.loop-preserved
+loop-preserved c =
+    let pushed = c.in_ok-push.ensures in
+    (subst (λ items. Continues context_at c.args.bytes.now c.args.at c.args.count items
+    c.in_ok-context.context.end (c.loop.counter + 1)) (sym pushed)
+    (one_more context_at c.args.bytes.now c.args.at c.args.count c.loop.contexts.items c.loop.end
+    c.loop.counter c.in_ok-context.context.value c.in_ok-context.context.end c.loop-test.true
+    c.in_ok-context.ensures c.loop.invariant.0),
+    grind (arith, common_steps))
+
+pub returns-clause-value : goal.returns-clause-value
+returns-clause-value c =
+    all_read context_at c.args.bytes.now c.args.at c.args.count c.loop.contexts.items c.loop.end
+    c.loop.counter (omega (arith, c.loop-test.false)) c.loop.invariant.0

@@ -1,0 +1,7 @@
+pub mod Represents
+pub mod SegmentBytes
+pub mod Rules
+pub mod Faults
+pub mod Example
+pub mod Checking
+pub mod Laws

@@ -1,0 +1,18 @@
+//! Segments: documents by rising numbers with the transducer of their paths, and their bytes.
+//! Flushes and merges make them, searches and deletes read them; contracts see the list of
+//! documents.
+#![tactic(auto)]
+
+mod building;
+mod checking;
+mod comparing;
+mod counting;
+mod documents;
+mod header;
+mod laws;
+mod layout;
+mod segment;
+mod writing;
+
+pub use laws::{one_thing_is_found, the_example_is_written};
+pub use segment::Segment;
