@@ -1,0 +1,10 @@
+//! Segments: documents by rising numbers with the transducer of their paths, and their bytes.
+//! Flushes and merges make them, searches and deletes read them; contracts see the list of
+//! documents.
+#![tactic(auto)]
+
+mod building;
+mod documents;
+mod segment;
+
+pub use segment::Segment;

@@ -1,0 +1,87 @@
+//! Segments.
+ghost use Rattle.std.specs.Prelude.{◌≡◌, ◌≤◌, ◌+◌, IfOk, length};
+ghost use Rattle.sg_paths.specs.declared.limits.TheConstants.{MOST_SEGMENT_DOCUMENTS};
+ghost use Rattle.sg_paths.specs.declared.limits.TheConstants.{MOST_SEGMENT_PATHS};
+ghost use Rattle.sg_paths.specs.AllPaths.{all_paths, path_entries};
+ghost use Rattle.sg_paths.specs.Operations.{documents_from};
+ghost use Rattle.fst_code.specs.Bytes.{nodes_of};
+ghost use Rattle.fst_code.specs.Lists.{list_of, IsCanonical};
+ghost use Rattle.fst_code.specs.Transducers.{IsTransducer};
+ghost use Rattle.fst_walk.specs.Starts.{AllHaveContexts};
+ghost use Rattle.segment.specs.Represents.{NumbersRise, path_tails};
+
+use crate::building::transducer_of;
+use crate::documents::documents_of;
+use fst_code::Transducer;
+use seg_table::SegTable;
+use sg_paths::{Batch, MOST_SEGMENT_PATHS, Numbered, paths_at_most, paths_of};
+use std::alloc::{AllocError, Global};
+use std::marker::Model;
+
+/// Documents by rising numbers, with the transducer of their paths. Contracts see their list.
+#[derive(Drop)]
+pub struct Segment {
+    table: SegTable,
+    transducer: Transducer,
+}
+
+impl Model for Segment {
+    ghost use Rattle.std.specs.Prelude.{List};
+    ghost use Rattle.sg_paths.specs.Operations.{PlainNumbered};
+    ghost use Rattle.segment.specs.Represents.{Represents};
+
+    ghost Value = { List PlainNumbered };
+
+    ghost view = { λ s. s.table };
+
+    ghost invariant = { λ s. Represents s.table s.transducer };
+}
+
+impl Segment {
+    /// Takes the documents over; a refusal drops them. Sorts their paths, n log n comparisons of n.
+    pub fn of_docs(alloc: Global, docs: Vec<Numbered>) -> Result<Segment, AllocError>
+        requires rise { NumbersRise docs.items }
+        requires documents { length docs.items ≤ MOST_SEGMENT_DOCUMENTS }
+        requires paths { length (path_entries 0 docs.items) ≤ MOST_SEGMENT_PATHS }
+        ensures { IfOk result (λ s. s ≡ docs.items) }
+    {
+        let paths = paths_of(alloc, docs.as_slice())?;
+        let transducer = transducer_of(alloc, paths.as_slice())?;
+        let table = SegTable::of(docs, paths.as_slice())?;
+        Ok(Segment { table, transducer })
+    }
+
+    /// The documents that the operations of a batch add, deleted ones too, copied.
+    pub fn of_batch(alloc: Global, batch: &Batch) -> Result<Segment, AllocError>
+        requires some { 1 ≤ length batch.now.operations }
+        requires most { length batch.now.operations ≤ 16384 }
+        requires from { 1 ≤ batch.now.from }
+        requires upto { batch.now.upto + 1 ≡ batch.now.from + length batch.now.operations }
+        ensures { IfOk result (λ s. s ≡ documents_from batch.now.from batch.now.operations) }
+    {
+        prove!(batch.from <= batch.upto);
+        let docs = documents_of(alloc, batch.ops.items(), batch.from)?;
+        prove!(paths_at_most(docs.as_slice()) <= MOST_SEGMENT_PATHS);
+        Segment::of_docs(alloc, docs)
+    }
+
+    /// The documents with the owners of their paths.
+    pub fn table(&self) -> &SegTable
+        ensures documents { result.now ≡ self.now }
+        ensures rise { NumbersRise self.now }
+        ensures most { length (all_paths self.now) ≤ MOST_SEGMENT_PATHS }
+    {
+        &self.table
+    }
+
+    /// The paths of the documents, by ordinal, with their costs.
+    pub fn transducer(&self) -> &Transducer
+        ensures maps { list_of result.now ≡ path_tails self.now }
+        ensures canonical { IsCanonical (nodes_of result.now) }
+        ensures sound { IsTransducer (nodes_of result.now) }
+        ensures contexts { AllHaveContexts (list_of result.now) }
+    {
+        let _ = self.transducer.root();
+        &self.transducer
+    }
+}
