@@ -11,6 +11,8 @@ use Rattle.sg_paths.specs.AllPaths.{FullPath, all_paths, path_bytes}
 use Rattle.fst_code.specs.Tails.{Tail}
 use Rattle.fst_code.specs.Bytes.{nodes_of}
 use Rattle.fst_code.specs.Lists.{list_of, IsCanonical, IsOnlyText}
+use Rattle.fst_code.specs.Rules.{IsValid}
+use Rattle.fst_code.specs.Shapes.{IsBytes}
 use Rattle.fst_walk.specs.Starts.{AllHaveContexts}
 
 -- a path's bytes with its cost: the greatest weight less its own
@@ -42,3 +44,9 @@ pub record Represents (docs : List PlainNumbered) (text : List ℕ) : Type 0 whe
   pub rise : NumbersRise docs
   pub few : length docs ≤ MOST_SEGMENT_DOCUMENTS
   pub many : length (all_paths docs) ≤ MOST_SEGMENT_PATHS
+
+-- the bytes of the documents' transducer: there are no others
+pub record IsTextOf (docs : List PlainNumbered) (text : List ℕ) : Type 0 where
+  pub bytes : IsBytes text
+  pub valid : IsValid text
+  pub maps : list_of text ≡ path_tails docs

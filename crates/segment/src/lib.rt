@@ -5,6 +5,8 @@
 
 mod building;
 mod documents;
+mod layout;
 mod segment;
+mod writing;
 
 pub use segment::Segment;
