@@ -2,14 +2,17 @@
 use Rattle.std.proofs.Common.{◌≡◌, ◌≤◌, ◌<◌, ◌+◌, ℕ, zero, suc, Bool, true, false, cond, ◌⊎◌}
 use Rattle.std.proofs.Common.{inl, inr, List, [], ◌∷◌, ◌++◌, length, map, take, get_or, refl, sym}
 use Rattle.std.proofs.Common.{ap, ◌∙◌, subst, arith, append_assoc, eqb, ltb, length-append}
-use Rattle.std.specs.Prelude.{IfSome, nat_le}
+use Rattle.std.specs.Prelude.{IfSome, is_none, nat_le}
 use Rattle.std.specs.Int.{w32, to_be_bytes}
-use Rattle.std.specs.List.{All, AllByRecursion}
+use Rattle.std.specs.List.{All, AllByRecursion, list_all, position_from}
 use Rattle.std.specs.Cmp.Lexicographic.{slice_cmp}
 use Rattle.std.specs.Ordering.{nat_cmp}
 use Rattle.std.proofs.lemmas.Bool.{and_parts}
 use Rattle.std.proofs.lemmas.Bool.Decides.{nat_tests}
 use Rattle.std.proofs.lemmas.List.Elements.{recursion_from_All}
+use Rattle.sg_base.specs.ReservedBytes.{is_reserved}
+use Rattle.sg_base.specs.Contexts.{is_context}
+use Rattle.sg_base.specs.Keys.{is_key, is_key_byte}
 use Rattle.sg_base.specs.ByteStrings.{is_less}
 use Rattle.sg_base.proofs.ByteStringLemmas.{Byte, same, less, more, byte, slice-less}
 use Rattle.sg_paths.specs.Operations.{PlainNumbered}
@@ -70,6 +73,15 @@ may_follow_at (p ∷ ps) (suc i) d f h = at_from (path_tail p) ps i d f (omega (
 le_of : (a b : ℕ) → nat_le a b ≡ true → a ≤ b
 le_of a b h = grind (arith, nat_tests)
 
+context_fits : (c : List ℕ) → is_context c ≡ true → length c ≤ 63
+context_fits c h =
+    le_of (length c) 63
+    (and_parts (is_none (position_from is_reserved 0 c)) (nat_le (length c) 63) h).1
+
+key_fits : (k : List ℕ) → is_key k ≡ true → length k ≤ 255
+key_fits k h =
+    le_of (length k) 255 (and_parts (nat_le (length k) 255) (list_all is_key_byte k) h).0
+
 length_head : (c k : List ℕ) → length (c ++ 29 ∷ (k ++ 0 ∷ [])) ≡ length c + length k + 2
 length_head c k =
     let a = length-append c (29 ∷ (k ++ 0 ∷ [])) in
@@ -79,13 +91,11 @@ length_head c k =
 pub path_length : (p : FullPath) → IsLegal p.entry
     → (0 < length (path_bytes p)) × (length (path_bytes p) ≤ 324)
 path_length p l =
-    let c : nat_le (length p.entry.context) 63 ≡ true = (and_parts _ _ l.context).1 in
-    let k : nat_le (length p.entry.key) 255 ≡ true = (and_parts _ _ l.key).0 in
     let a = length_head p.entry.context p.entry.key in
     let b : length (path_bytes p) ≡ length (head_bytes p.entry) + 4 =
         length-append (head_bytes p.entry) (to_be_bytes w32 p.n) in
-    let m : length p.entry.context ≤ 63 = le_of (length p.entry.context) 63 c in
-    let n : length p.entry.key ≤ 255 = le_of (length p.entry.key) 255 k in
+    let m : length p.entry.context ≤ 63 = context_fits p.entry.context l.context in
+    let n : length p.entry.key ≤ 255 = key_fits p.entry.key l.key in
     (omega (arith, a, b), omega (arith, a, b, m, n))
 
 -- a path begins with its context
@@ -101,7 +111,7 @@ has_context p l =
       rest = rest;
       is = whole ∙ ap (λ z. z ++ 29 ∷ rest) (sym is);
       fits = subst (λ (z : List ℕ). length z ≤ 63) (sym is)
-          (le_of (length c) 63 (and_parts _ _ l.context).1)
+          (context_fits c l.context)
     }
 
 have_contexts : (ps : List FullPath) → AllByRecursion (λ p. IsLegal p.entry) ps

@@ -1,7 +1,7 @@
 -- A segment's bytes: a header with the counts, the documents, the owner of each path, the documents
 -- by id, and the transducer. Numbers have their greatest byte first. Source: this project's own
 -- format.
-use Rattle.std.specs.Prelude.{ℕ, List, [], ◌∷◌, ◌++◌, length, map}
+use Rattle.std.specs.Prelude.{◌≡◌, ℕ, List, [], ◌∷◌, ◌++◌, length, map}
 use Rattle.std.specs.Int.{w32, w64, to_be_bytes}
 use Rattle.std.specs.List.{flat_map}
 use Rattle.sg_paths.specs.Operations.{PlainNumbered}
@@ -10,6 +10,7 @@ use Rattle.seg_table.specs.declared.owner.Owner.{Owner}
 use Rattle.seg_table.specs.Owners.{owner_of}
 use Rattle.seg_table.specs.Ids.{id_index}
 use Rattle.seg_bytes.specs.DocumentBytes.{documents_bytes}
+use Rattle.segment.specs.Represents.{IsTextOf}
 
 -- "SGS1"
 abbrev pub segment_name : List ℕ
@@ -41,3 +42,9 @@ abbrev pub segment_bytes : List PlainNumbered → List ℕ → List ℕ
 segment_bytes docs text =
     header_bytes (length docs) (length (all_paths docs)) (length text)
     ++ (documents_bytes docs ++ rest_bytes docs text)
+
+-- these are the bytes of the segment that represents documents
+pub record IsWritten (docs : List PlainNumbered) (bytes : List ℕ) : Type 0 where
+  pub text : List ℕ
+  pub given : IsTextOf docs text
+  pub whole : bytes ≡ segment_bytes docs text

@@ -9,11 +9,14 @@ ghost use Rattle.fst_code.specs.Lists.{list_of, IsCanonical};
 ghost use Rattle.fst_code.specs.Transducers.{IsTransducer};
 ghost use Rattle.fst_walk.specs.Starts.{AllHaveContexts};
 ghost use Rattle.segment.specs.Represents.{NumbersRise, path_tails};
+ghost use Rattle.segment.specs.SegmentBytes.{IsWritten};
 
 use crate::building::transducer_of;
 use crate::documents::documents_of;
+use crate::writing::written;
 use fst_code::Transducer;
 use seg_table::SegTable;
+use sg_base::Bytes;
 use sg_paths::{Batch, MOST_SEGMENT_PATHS, Numbered, paths_at_most, paths_of};
 use std::alloc::{AllocError, Global};
 use std::marker::Model;
@@ -21,6 +24,7 @@ use std::marker::Model;
 /// Documents by rising numbers, with the transducer of their paths. Contracts see their list.
 #[derive(Drop)]
 pub struct Segment {
+    alloc: Global,
     table: SegTable,
     transducer: Transducer,
 }
@@ -48,7 +52,11 @@ impl Segment {
         let paths = paths_of(alloc, docs.as_slice())?;
         let transducer = transducer_of(alloc, paths.as_slice())?;
         let table = SegTable::of(docs, paths.as_slice())?;
-        Ok(Segment { table, transducer })
+        Ok(Segment {
+            alloc,
+            table,
+            transducer,
+        })
     }
 
     /// The documents that the operations of a batch add, deleted ones too, copied.
@@ -63,6 +71,14 @@ impl Segment {
         let docs = documents_of(alloc, batch.ops.items(), batch.from)?;
         prove!(paths_at_most(docs.as_slice()) <= MOST_SEGMENT_PATHS);
         Segment::of_docs(alloc, docs)
+    }
+
+    /// The bytes, in room that is taken at once.
+    pub fn write(&self) -> Result<Bytes, AllocError>
+        ensures { IfOk result (λ b. IsWritten self.now b.items) }
+    {
+        let text = self.transducer.bytes();
+        Ok(Bytes::from_vec(written(self.alloc, &self.table, text)?))
     }
 
     /// The documents with the owners of their paths.

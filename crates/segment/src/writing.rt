@@ -2,6 +2,7 @@
 ghost use Rattle.std.specs.Prelude.{◌≡◌, ◌≤◌, ◌++◌, IfOk, OnOk, length};
 ghost use Rattle.std.specs.Int.{to_be_bytes, w32, w64};
 ghost use Rattle.std.specs.List.{flat_map};
+ghost use Rattle.sg_paths.specs.declared.limits.TheConstants.{MOST_SEGMENT_DOCUMENTS};
 ghost use Rattle.sg_paths.specs.declared.limits.TheConstants.{MOST_SEGMENT_PATHS};
 ghost use Rattle.sg_paths.specs.AllPaths.{all_paths};
 ghost use Rattle.fst_code.specs.Shapes.{IsBytes};
@@ -12,6 +13,7 @@ use crate::layout::{HEADER, OWNER, PLACE};
 use fst_code::put_number;
 use seg_bytes::{documents_len, put_documents};
 use seg_table::{Owner, SegTable};
+use sg_paths::Numbered;
 use std::alloc::{AllocError, Global};
 
 fn put_owner(out: &mut Vec<u8>, owner: Owner) -> Result<(), AllocError>
@@ -61,4 +63,28 @@ pub(crate) fn put_rest(out: &mut Vec<u8>, table: &SegTable, text: &[u8]) -> Resu
     put_owners(out, table.owners())?;
     put_places(out, table.ids())?;
     out.extend_from_slice(text)
+}
+
+/// How many bytes a segment has.
+fn segment_len(docs: &[Numbered], owners: usize, text: &[u8]) -> usize
+    requires few { length docs.now ≤ MOST_SEGMENT_DOCUMENTS }
+    requires many { owners ≤ MOST_SEGMENT_PATHS }
+{
+    HEADER + documents_len(docs) + OWNER * owners + PLACE * docs.len() + text.len()
+}
+
+/// A segment's bytes, with those of its transducer, in room that is taken at once.
+pub(crate) fn written(alloc: Global, table: &SegTable, text: &[u8]) -> Result<Vec<u8>, AllocError>
+    requires { length (all_paths table.now) ≤ MOST_SEGMENT_PATHS }
+    ensures value { IfOk result (λ v. v.items ≡ segment_bytes table.now text.now) }
+    ensures bytes { IsBytes text.now }
+{
+    let documents = table.len();
+    let docs = table.docs();
+    let owners = table.owners().len();
+    let mut out = Vec::with_capacity(alloc, segment_len(docs, owners, text))?;
+    put_header(&mut out, documents, owners as u32, text.len() as u64)?;
+    put_documents(&mut out, docs)?;
+    put_rest(&mut out, table, text)?;
+    Ok(out)
 }
