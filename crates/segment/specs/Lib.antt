@@ -1,2 +1,5 @@
 pub mod Represents
 pub mod SegmentBytes
+pub mod Rules
+pub mod Faults
+pub mod Example

@@ -5,8 +5,11 @@
 
 mod building;
 mod documents;
+mod header;
+mod laws;
 mod layout;
 mod segment;
 mod writing;
 
+pub use laws::the_example_is_written;
 pub use segment::Segment;
