@@ -3,3 +3,4 @@ pub mod SegmentBytes
 pub mod Rules
 pub mod Faults
 pub mod Example
+pub mod Checking

@@ -62,16 +62,17 @@ rest_length bytes = 5 * path_count bytes + 4 * document_count bytes + text_lengt
 
 -- rule 6: the header has the number of the documents' paths, and behind the documents stand as
 -- many bytes as it says
-abbrev pub rule_6 : List PlainNumbered → ℕ → List ℕ → Option ℕ
-rule_6 docs end bytes =
-    or_first (broken_if (not (path_count bytes == length (all_paths docs))) 8)
+abbrev pub rule_6 : ℕ → ℕ → List ℕ → Option ℕ
+rule_6 paths end bytes =
+    or_first (broken_if (not (path_count bytes == paths)) 8)
     (broken_if (not (length bytes == end + rest_length bytes)) (length bytes))
 
 -- the rules from 4 to 6, where rule 5 is that the documents' numbers rise from 1
 abbrev pub reading_broken : Reading (List PlainNumbered) → List ℕ → Option (ℕ × ℕ)
 reading_broken (broken at) bytes = Some (4, at)
 reading_broken (reads docs end) bytes =
-    or_first (ruled 5 (wrong_number 20 docs)) (ruled 6 (rule_6 docs end bytes))
+    or_first (ruled 5 (wrong_number 20 docs))
+    (ruled 6 (rule_6 (length (all_paths docs)) end bytes))
 
 -- the first broken one of the rules up to 6
 abbrev pub first_six_broken : List ℕ → Option (ℕ × ℕ)

@@ -4,6 +4,8 @@
 #![tactic(auto)]
 
 mod building;
+mod comparing;
+mod counting;
 mod documents;
 mod header;
 mod laws;

@@ -1,14 +1,17 @@
 //! Segments.
-ghost use Rattle.std.specs.Prelude.{◌≡◌, ◌≤◌, ◌+◌, IfOk, length};
+ghost use Rattle.std.specs.Prelude.{◌≡◌, ◌≤◌, ◌+◌, IfOk, length, map};
+ghost use Rattle.std.specs.List.{All};
 ghost use Rattle.sg_paths.specs.declared.limits.TheConstants.{MOST_SEGMENT_DOCUMENTS};
 ghost use Rattle.sg_paths.specs.declared.limits.TheConstants.{MOST_SEGMENT_PATHS};
-ghost use Rattle.sg_paths.specs.AllPaths.{all_paths, path_entries};
+ghost use Rattle.sg_paths.specs.AllPaths.{all_paths, path_bytes, path_entries};
+ghost use Rattle.sg_paths.specs.PathLaws.{IsLegal, Rises};
 ghost use Rattle.sg_paths.specs.Operations.{documents_from};
 ghost use Rattle.fst_code.specs.Bytes.{nodes_of};
 ghost use Rattle.fst_code.specs.Lists.{list_of, IsCanonical};
+ghost use Rattle.fst_code.specs.Shapes.{IsBytes};
 ghost use Rattle.fst_code.specs.Transducers.{IsTransducer};
 ghost use Rattle.fst_walk.specs.Starts.{AllHaveContexts};
-ghost use Rattle.segment.specs.Represents.{NumbersRise, path_tails};
+ghost use Rattle.segment.specs.Represents.{IsTextOf, NumbersRise, path_tails};
 ghost use Rattle.segment.specs.SegmentBytes.{IsWritten};
 
 use crate::building::transducer_of;
@@ -17,7 +20,7 @@ use crate::writing::written;
 use fst_code::Transducer;
 use seg_table::SegTable;
 use sg_base::Bytes;
-use sg_paths::{Batch, MOST_SEGMENT_PATHS, Numbered, paths_at_most, paths_of};
+use sg_paths::{Batch, MOST_SEGMENT_PATHS, Numbered, Path, paths_at_most, paths_of};
 use std::alloc::{AllocError, Global};
 use std::marker::Model;
 
@@ -50,8 +53,25 @@ impl Segment {
         ensures { IfOk result (λ s. s ≡ docs.items) }
     {
         let paths = paths_of(alloc, docs.as_slice())?;
-        let transducer = transducer_of(alloc, paths.as_slice())?;
-        let table = SegTable::of(docs, paths.as_slice())?;
+        Segment::of_paths(alloc, docs, paths.as_slice())
+    }
+
+    /// The same of documents whose paths are known.
+    pub(crate) fn of_paths(
+        alloc: Global,
+        docs: Vec<Numbered>,
+        paths: &[Path],
+    ) -> Result<Segment, AllocError>
+        requires rise { NumbersRise docs.items }
+        requires documents { length docs.items ≤ MOST_SEGMENT_DOCUMENTS }
+        requires paths { paths.now ≡ all_paths docs.items }
+        requires legal { All (λ p. IsLegal p.entry) paths.now }
+        requires rises { Rises (map path_bytes paths.now) }
+        requires many { length paths.now ≤ MOST_SEGMENT_PATHS }
+        ensures { IfOk result (λ s. s ≡ docs.items) }
+    {
+        let transducer = transducer_of(alloc, paths)?;
+        let table = SegTable::of(docs, paths)?;
         Ok(Segment {
             alloc,
             table,
@@ -77,8 +97,18 @@ impl Segment {
     pub fn write(&self) -> Result<Bytes, AllocError>
         ensures { IfOk result (λ b. IsWritten self.now b.items) }
     {
-        let text = self.transducer.bytes();
-        Ok(Bytes::from_vec(written(self.alloc, &self.table, text)?))
+        Ok(Bytes::from_vec(written(
+            self.alloc,
+            &self.table,
+            self.text(),
+        )?))
+    }
+
+    /// The bytes of the transducer.
+    pub(crate) fn text(&self) -> &[u8]
+        ensures { IsTextOf self.now result.now }
+    {
+        known_bytes(self.transducer.bytes())
     }
 
     /// The documents with the owners of their paths.
@@ -100,4 +130,12 @@ impl Segment {
         let _ = self.transducer.root();
         &self.transducer
     }
+}
+
+/// The same bytes.
+fn known_bytes(bytes: &[u8]) -> &[u8]
+    ensures same { result.now ≡ bytes.now }
+    ensures bytes { IsBytes bytes.now }
+{
+    bytes
 }

@@ -5,7 +5,6 @@ ghost use Rattle.std.specs.List.{flat_map};
 ghost use Rattle.sg_paths.specs.declared.limits.TheConstants.{MOST_SEGMENT_DOCUMENTS};
 ghost use Rattle.sg_paths.specs.declared.limits.TheConstants.{MOST_SEGMENT_PATHS};
 ghost use Rattle.sg_paths.specs.AllPaths.{all_paths};
-ghost use Rattle.fst_code.specs.Shapes.{IsBytes};
 ghost use Rattle.segment.specs.SegmentBytes.{header_bytes, owner_bytes, rest_bytes};
 ghost use Rattle.segment.specs.SegmentBytes.{segment_bytes};
 
@@ -76,8 +75,7 @@ fn segment_len(docs: &[Numbered], owners: usize, text: &[u8]) -> usize
 /// A segment's bytes, with those of its transducer, in room that is taken at once.
 pub(crate) fn written(alloc: Global, table: &SegTable, text: &[u8]) -> Result<Vec<u8>, AllocError>
     requires { length (all_paths table.now) ≤ MOST_SEGMENT_PATHS }
-    ensures value { IfOk result (λ v. v.items ≡ segment_bytes table.now text.now) }
-    ensures bytes { IsBytes text.now }
+    ensures { IfOk result (λ v. v.items ≡ segment_bytes table.now text.now) }
 {
     let documents = table.len();
     let docs = table.docs();
