@@ -1,3 +1,4 @@
 pub mod FollowLemmas
 pub mod NumberLemmas
 pub mod ReadingLemmas
+pub mod RoundLemmas

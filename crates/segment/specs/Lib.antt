@@ -4,3 +4,4 @@ pub mod Rules
 pub mod Faults
 pub mod Example
 pub mod Checking
+pub mod Laws

@@ -4,6 +4,7 @@
 #![tactic(auto)]
 
 mod building;
+mod checking;
 mod comparing;
 mod counting;
 mod documents;
@@ -13,5 +14,5 @@ mod layout;
 mod segment;
 mod writing;
 
-pub use laws::the_example_is_written;
+pub use laws::{one_thing_is_found, the_example_is_written};
 pub use segment::Segment;

@@ -1,5 +1,5 @@
 //! Segments.
-ghost use Rattle.std.specs.Prelude.{◌≡◌, ◌≤◌, ◌+◌, IfOk, length, map};
+ghost use Rattle.std.specs.Prelude.{◌≡◌, ◌≤◌, ◌+◌, IfErr, IfOk, length, map};
 ghost use Rattle.std.specs.List.{All};
 ghost use Rattle.sg_paths.specs.declared.limits.TheConstants.{MOST_SEGMENT_DOCUMENTS};
 ghost use Rattle.sg_paths.specs.declared.limits.TheConstants.{MOST_SEGMENT_PATHS};
@@ -11,13 +11,15 @@ ghost use Rattle.fst_code.specs.Lists.{list_of, IsCanonical};
 ghost use Rattle.fst_code.specs.Shapes.{IsBytes};
 ghost use Rattle.fst_code.specs.Transducers.{IsTransducer};
 ghost use Rattle.fst_walk.specs.Starts.{AllHaveContexts};
+ghost use Rattle.segment.specs.Faults.{Accepts, Refuses};
 ghost use Rattle.segment.specs.Represents.{IsTextOf, NumbersRise, path_tails};
 ghost use Rattle.segment.specs.SegmentBytes.{IsWritten};
 
 use crate::building::transducer_of;
+use crate::checking::checked;
 use crate::documents::documents_of;
 use crate::writing::written;
-use fst_code::Transducer;
+use fst_code::{CodeError, Transducer};
 use seg_table::SegTable;
 use sg_base::Bytes;
 use sg_paths::{Batch, MOST_SEGMENT_PATHS, Numbered, Path, paths_at_most, paths_of};
@@ -35,7 +37,8 @@ pub struct Segment {
 impl Model for Segment {
     ghost use Rattle.std.specs.Prelude.{List};
     ghost use Rattle.sg_paths.specs.Operations.{PlainNumbered};
-    ghost use Rattle.segment.specs.Represents.{Represents};
+    ghost use Rattle.segment.specs.Faults.{Accepts, Refuses};
+ghost use Rattle.segment.specs.Represents.{Represents};
 
     ghost Value = { List PlainNumbered };
 
@@ -102,6 +105,15 @@ impl Segment {
             &self.table,
             self.text(),
         )?))
+    }
+
+    /// Takes over bytes that break no rule, and else says which is broken first, and where. Memory
+    /// in proportion to the bytes, whatever their counts say.
+    pub fn check(alloc: Global, bytes: Bytes) -> Result<Segment, CodeError>
+        ensures ok { IfOk result (Accepts bytes.items) }
+        ensures err { IfErr result (Refuses bytes.items) }
+    {
+        checked(alloc, bytes.as_slice())
     }
 
     /// The bytes of the transducer.

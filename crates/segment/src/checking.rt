@@ -1,0 +1,93 @@
+//! The check of a segment's bytes.
+ghost use Rattle.std.specs.Prelude.{◌≡◌, IfErr, IfOk};
+ghost use Rattle.fst_code.specs.Shapes.{IsBytes};
+ghost use Rattle.segment.specs.Checking.{IsRead, RefusesEarly, IsBuilt};
+ghost use Rattle.segment.specs.Faults.{Accepts, Refuses};
+
+use crate::comparing::{wrong_counts, wrong_rest};
+use crate::counting::exceed;
+use crate::header::{header_fault, number_in_four};
+use crate::layout::{DOCUMENT_COUNT, HEADER, PATH_COUNT};
+use crate::segment::Segment;
+use fst_code::CodeError;
+use seg_bytes::{DocumentsRead, ReadError, misplaced_number, read_documents};
+use sg_paths::{Numbered, paths_of};
+use std::alloc::Global;
+
+/// The documents, where the first five rules hold.
+fn documents_of(alloc: Global, bytes: &[u8]) -> Result<DocumentsRead, CodeError>
+    ensures ok { IfOk result (λ r. IsRead bytes.now r.docs.items r.end) }
+    ensures err { IfErr result (RefusesEarly bytes.now) }
+{
+    if let Some((rule, at)) = header_fault(bytes) {
+        return Err(CodeError::Bad {
+            rule,
+            at: at as u64,
+        });
+    }
+    let count = number_in_four(bytes, DOCUMENT_COUNT);
+    let read = match read_documents(alloc, bytes, HEADER, count) {
+        Ok(read) => read,
+        Err(ReadError::Bad { at }) => return Err(CodeError::Bad { rule: 4, at }),
+        Err(ReadError::Memory) => return Err(CodeError::Memory),
+    };
+    if let Some(at) = misplaced_number(read.docs.as_slice(), HEADER) {
+        return Err(CodeError::Bad {
+            rule: 5,
+            at: at as u64,
+        });
+    }
+    Ok(read)
+}
+
+/// The segment of the documents, where the sixth rule holds too.
+fn built(
+    alloc: Global,
+    bytes: &[u8],
+    docs: Vec<Numbered>,
+    end: usize,
+) -> Result<Segment, CodeError>
+    requires { IsRead bytes.now docs.items end }
+    ensures ok { IfOk result (λ s. IsBuilt bytes.now docs.items end s) }
+    ensures err { IfErr result (RefusesEarly bytes.now) }
+{
+    let Ok(exceeds) = exceed(alloc, docs.as_slice()) else {
+        return Err(CodeError::Memory);
+    };
+    if exceeds {
+        return Err(CodeError::Bad {
+            rule: 6,
+            at: PATH_COUNT as u64,
+        });
+    }
+    let Ok(paths) = paths_of(alloc, docs.as_slice()) else {
+        return Err(CodeError::Memory);
+    };
+    if let Some(at) = wrong_counts(bytes, paths.len(), end) {
+        return Err(CodeError::Bad {
+            rule: 6,
+            at: at as u64,
+        });
+    }
+    match Segment::of_paths(alloc, docs, paths.as_slice()) {
+        Ok(segment) => Ok(segment),
+        Err(_) => Err(CodeError::Memory),
+    }
+}
+
+/// The segment of bytes that break no rule. What is built of their documents is compared with them.
+pub(crate) fn checked(alloc: Global, bytes: &[u8]) -> Result<Segment, CodeError>
+    ensures ok { IfOk result (Accepts bytes.now) }
+    ensures err { IfErr result (Refuses bytes.now) }
+{
+    let DocumentsRead { docs, end } = documents_of(alloc, bytes)?;
+    let segment = built(alloc, bytes, docs, end)?;
+    match wrong_rest(alloc, segment.table(), segment.text(), bytes, end) {
+        Ok(None) => Ok(segment),
+        Ok(Some(at)) => Err(CodeError::Bad {
+            rule: 7,
+            at: at as u64,
+        }),
+        Err(_) => Err(CodeError::Memory),
+    }
+}
