@@ -17,6 +17,15 @@ pub rest_all : {X : Type 0} (P : X → Type 0) (xs : List X) (i : ℕ) → lengt
     → (AllByRecursion P (drop i xs) → AllByRecursion P xs) → AllByRecursion P xs
 rest_all P xs i h f = f (subst (AllByRecursion P) (sym (drop_all i xs h)) tt)
 
+-- the bytes of an item and of those behind it
+pub length_more : {X : Type 0} (f : X → List ℕ) (xs : List X) (i : ℕ) (x : X) → i < length xs
+    → x ≡ get_or xs i x → length (flat_map f (drop i xs))
+    ≡ length (f x) + length (flat_map f (drop (i + 1) xs))
+length_more f xs i x h is =
+    ap (λ ys. length (flat_map f ys)) (drop_more xs i x h)
+    ∙ length-append (f (get_or xs i x)) (flat_map f (drop (i + 1) xs))
+    ∙ ap (λ y. length (f y) + length (flat_map f (drop (i + 1) xs))) (sym is)
+
 -- room is missing for the whole where it is missing for an item
 pub full_in : {X : Type 0} (f : X → List ℕ) (xs : List X) (i : ℕ) (x : X) → i < length xs
     → x ≡ get_or xs i x → (old new : List ℕ) → new ++ flat_map f (drop i xs) ≡ old ++ flat_map f xs
@@ -28,10 +37,7 @@ full_in f xs i x h is old new all room more less full =
         sym (length-append new (flat_map f (drop i xs))) ∙ ap length all
         ∙ length-append old (flat_map f xs) in
     let left : length (flat_map f (drop i xs))
-        ≡ length (f x) + length (flat_map f (drop (i + 1) xs)) =
-        ap (λ ys. length (flat_map f ys)) (drop_more xs i x h)
-        ∙ length-append (f (get_or xs i x)) (flat_map f (drop (i + 1) xs))
-        ∙ ap (λ y. length (f y) + length (flat_map f (drop (i + 1) xs))) (sym is) in
+        ≡ length (f x) + length (flat_map f (drop (i + 1) xs)) = length_more f xs i x h is in
     omega (arith, whole, left, less, full)
 
 -- what holds anyway holds where there is an error

@@ -1,7 +1,13 @@
 //! What is true of the definitions.
 ghost use Rattle.seg_bytes.specs.Example.{TheExample};
+ghost use Rattle.seg_bytes.specs.Laws.{DocumentsReadBack};
 
 /// The format's example is written and read.
 pub fn the_example_is_read()
     ensures { TheExample }
+{}
+
+/// Documents that were written are read back, wherever their bytes stand.
+pub fn what_was_written_is_read()
+    ensures { DocumentsReadBack }
 {}
