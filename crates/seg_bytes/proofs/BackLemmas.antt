@@ -1,6 +1,6 @@
 -- Fields that were written are read back, and what stands one after another.
-use Rattle.std.proofs.Common.{◌≡◌, ◌≤◌, ◌<◌, ◌+◌, ◌^◌, ℕ, zero, suc, Bool, true, ◌&&◌, List, [], ◌∷◌}
-use Rattle.std.proofs.Common.{◌++◌, length, take, drop, refl, sym, ap, ◌∙◌, subst, arith}
+use Rattle.std.proofs.Common.{◌≡◌, ◌<◌, ◌+◌, ◌^◌, ℕ, Bool, true, List, [], ◌∷◌}
+use Rattle.std.proofs.Common.{◌++◌, length, take, drop, refl, sym, ap, ◌∙◌, arith}
 use Rattle.std.proofs.Common.{append_assoc, add-zero}
 use Rattle.std.proofs.lemmas.Bool.{le-leb}
 use Rattle.std.proofs.lemmas.List.{length-append, take_at, drop_at}
@@ -9,7 +9,7 @@ use Rattle.std.proofs.lemmas.Nat.{from_be_bytes-to_be_bytes_8}
 use Rattle.std.specs.Prelude.{nat_le, if◌then◌else◌}
 use Rattle.std.specs.List.{AllByRecursion, flat_map}
 use Rattle.std.specs.Int.{Width, w8, w16, w32, w64, byte_len, from_be_bytes, to_be_bytes}
-use Rattle.seg_bytes.specs.Fields.{Reading, Reader, reads, broken, then_read, part_at, number_at}
+use Rattle.seg_bytes.specs.Fields.{Reader, reads, broken, then_read, part_at, number_at}
 use Rattle.seg_bytes.specs.Fields.{text_at, tested, many_at}
 use Rattle.seg_bytes.specs.DocumentBytes.{short_bytes}
 use Rattle.seg_bytes.specs.Laws.{IsReadBack}
@@ -30,12 +30,12 @@ pub both : {A B : Type 0} (one : Reader A) (next : A → Reader B) (b c : List �
 both one next b c x y h k before after =
     let whole = before ++ ((b ++ c) ++ after) in
     let first : whole ≡ before ++ (b ++ (c ++ after)) =
-        ap (λ z. before ++ z) (append_assoc b c after) in
+    ap (λ z. before ++ z) (append_assoc b c after) in
     let second : whole ≡ (before ++ b) ++ (c ++ after) =
-        first ∙ sym (append_assoc before b (c ++ after)) in
+    first ∙ sym (append_assoc before b (c ++ after)) in
     let front : length before + length b ≡ length (before ++ b) = sym (length-append before b) in
     let all : length before + length (b ++ c) ≡ length before + length b + length c =
-        (let l = length-append b c in omega (arith, l)) in
+    (let l = length-append b c in omega (arith, l)) in
     then_is (one whole (length before)) x (length before + length b)
     (λ v end. next v whole end)
     (stands one b x h whole before (c ++ after) (length before) (length before + length b) first
@@ -56,13 +56,13 @@ unfolding part_at
 part_back start t before after =
     let whole = before ++ (t ++ after) in
     let enough : nat_le (length before + length t) (length whole) ≡ true =
-        (let l = length-append before (t ++ after) in let m = length-append t after in
-        le-leb (length before + length t) (length whole) (omega (arith, l, m))) in
+    (let l = length-append before (t ++ after) in let m = length-append t after in
+    le-leb (length before + length t) (length whole) (omega (arith, l, m))) in
     let part : take (length t) (drop (length before) whole) ≡ t =
-        ap (take (length t)) (drop_at before (t ++ after) (length before) refl)
-        ∙ take_at t after (length t) refl in
+    ap (take (length t)) (drop_at before (t ++ after) (length before) refl)
+    ∙ take_at t after (length t) refl in
     ap (λ b. if b then reads (take (length t) (drop (length before) whole))
-      (length before + length t) else broken start) enough
+    (length before + length t) else broken start) enough
     ∙ ap (λ z. reads z (length before + length t)) part
 
 -- a number
@@ -95,11 +95,11 @@ unfolding text_at
 text_back w t b h before after =
     let whole = before ++ ((b ++ t) ++ after) in
     let first : whole ≡ before ++ (b ++ (t ++ after)) =
-        ap (λ z. before ++ z) (append_assoc b t after) in
+    ap (λ z. before ++ z) (append_assoc b t after) in
     let second : whole ≡ (before ++ b) ++ (t ++ after) =
-        first ∙ sym (append_assoc before b (t ++ after)) in
+    first ∙ sym (append_assoc before b (t ++ after)) in
     let all : length before + length (b ++ t) ≡ length before + length b + length t =
-        (let l = length-append b t in omega (arith, l)) in
+    (let l = length-append b t in omega (arith, l)) in
     then_is (number_at w whole (length before)) (length t) (length before + length b) _
     (stands (number_at w) b (length t) h whole before (t ++ after) (length before)
     (length before + length b) first refl refl)

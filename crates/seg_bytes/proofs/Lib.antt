@@ -5,3 +5,5 @@ pub mod StepLemmas
 pub mod NumberLemmas
 pub mod BackLemmas
 pub mod BackDocuments
+pub mod OnlyLemmas
+pub mod OnlyDocuments

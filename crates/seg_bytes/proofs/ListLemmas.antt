@@ -1,7 +1,7 @@
 -- Loops over lists: what is said of the items that are left, and room for what they append.
-use Rattle.std.proofs.Common.{◌≡◌, ◌≤◌, ◌<◌, ◌+◌, ℕ, List, [], ◌∷◌, ◌++◌, length, drop, get_or}
+use Rattle.std.proofs.Common.{◌≡◌, ◌≤◌, ◌<◌, ◌+◌, ℕ, List, ◌++◌, length, drop, get_or}
 use Rattle.std.proofs.Common.{sym, ap, subst, ◌∙◌, arith}
-use Rattle.std.specs.Prelude.{Result, Ok, Err, OnErr}
+use Rattle.std.specs.Prelude.{Result, Ok, Err, OnErr, OnOk}
 use Rattle.std.specs.List.{AllByRecursion, flat_map}
 use Rattle.std.proofs.lemmas.List.{length-append, drop_more, drop_all}
 
@@ -33,14 +33,19 @@ pub full_in : {X : Type 0} (f : X → List ℕ) (xs : List X) (i : ℕ) (x : X) 
     → room < length old + length (flat_map f xs)
 full_in f xs i x h is old new all room more less full =
     let whole : length new + length (flat_map f (drop i xs))
-        ≡ length old + length (flat_map f xs) =
-        sym (length-append new (flat_map f (drop i xs))) ∙ ap length all
-        ∙ length-append old (flat_map f xs) in
+    ≡ length old + length (flat_map f xs) =
+    sym (length-append new (flat_map f (drop i xs))) ∙ ap length all
+    ∙ length-append old (flat_map f xs) in
     let left : length (flat_map f (drop i xs))
-        ≡ length (f x) + length (flat_map f (drop (i + 1) xs)) = length_more f xs i x h is in
+    ≡ length (f x) + length (flat_map f (drop (i + 1) xs)) = length_more f xs i x h is in
     omega (arith, whole, left, less, full)
 
 -- what holds anyway holds where there is an error
 pub on_err : {T E P : Type 0} (r : Result T E) → P → OnErr r P
 on_err (Ok x) p = tt
 on_err (Err e) p = p
+
+-- and where there is none
+pub on_ok : {T E P : Type 0} (r : Result T E) → P → OnOk r P
+on_ok (Ok x) p = p
+on_ok (Err e) p = tt

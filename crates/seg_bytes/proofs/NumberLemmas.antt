@@ -1,6 +1,6 @@
 -- A loop over documents whose numbers are to rise.
-use Rattle.std.proofs.Common.{◌≡◌, ◌≤◌, ◌<◌, ◌+◌, ℕ, Bool, true, false, ◌&&◌, List, ◌∷◌, length}
-use Rattle.std.proofs.Common.{drop, get_or, sym, ap, ◌∙◌, Some, None, Option}
+use Rattle.std.proofs.Common.{◌≡◌, ◌≤◌, ◌<◌, ◌+◌, ℕ, true, false, ◌&&◌, List, ◌∷◌, length}
+use Rattle.std.proofs.Common.{drop, get_or, sym, ap, ◌∙◌, Some, None}
 use Rattle.std.proofs.lemmas.List.{drop_more, drop_all}
 use Rattle.std.specs.Prelude.{nat_lt, nat_le, if◌then◌else◌}
 use Rattle.sg_paths.specs.Operations.{PlainNumbered}
@@ -24,8 +24,8 @@ unfolding wrong_number_after
 one_rises docs i d last at h is rises =
     ap (wrong_number_after last at) (next_is docs i d h is)
     ∙ ap (λ b. if b
-      then wrong_number_after d.seq (at + length (document_bytes d)) (drop (i + 1) docs)
-      else Some at) rises
+    then wrong_number_after d.seq (at + length (document_bytes d)) (drop (i + 1) docs)
+    else Some at) rises
 
 -- its number is wrong
 pub one_wrong : (docs : List PlainNumbered) (i : ℕ) (d : PlainNumbered) (last at : ℕ)
@@ -36,8 +36,8 @@ unfolding wrong_number_after
 one_wrong docs i d last at h is wrong =
     ap (wrong_number_after last at) (next_is docs i d h is)
     ∙ ap (λ b. if b
-      then wrong_number_after d.seq (at + length (document_bytes d)) (drop (i + 1) docs)
-      else Some at) wrong
+    then wrong_number_after d.seq (at + length (document_bytes d)) (drop (i + 1) docs)
+    else Some at) wrong
 
 -- no document is left
 pub none_wrong : (docs : List PlainNumbered) (i last at : ℕ) → length docs ≤ i

@@ -1,6 +1,6 @@
 -- Documents as bytes: numbers with the greatest byte first, and each text behind its length.
 -- Source: this project's own format.
-use Rattle.std.specs.Prelude.{ℕ, List, [], ◌∷◌, ◌++◌, length}
+use Rattle.std.specs.Prelude.{ℕ, List, ◌∷◌, ◌++◌, length}
 use Rattle.std.specs.Int.{w16, w32, w64, to_be_bytes}
 use Rattle.std.specs.List.{flat_map}
 use Rattle.sg_paths.specs.Documents.{PlainSuggestion}

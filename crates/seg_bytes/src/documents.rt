@@ -1,8 +1,10 @@
 //! So many documents from bytes.
-ghost use Rattle.std.specs.Prelude.{◌≡◌, IfErr, IfOk, length};
+ghost use Rattle.std.specs.Prelude.{◌≡◌, ◌≤◌, ◌+◌, IfErr, IfOk, length};
 ghost use Rattle.seg_bytes.specs.Answers.{Reads, Refuses};
+ghost use Rattle.seg_bytes.specs.DocumentBytes.{documents_bytes};
 ghost use Rattle.seg_bytes.specs.DocumentsRead.{document_at as document_is, documents_at};
 ghost use Rattle.seg_bytes.specs.Fields.{many_at, reads};
+ghost use Rattle.seg_bytes.specs.Laws.{StandsAt};
 
 use crate::error::ReadError;
 use crate::field::Field;
@@ -49,6 +51,9 @@ pub fn read_documents(
     ensures ok { IfOk result (λ r. documents_at count bytes.now at ≡ reads r.docs.items r.end) }
     ensures refused { IfErr result (Refuses (documents_at count bytes.now at)) }
     ensures count { IfOk result (λ r. length r.docs.items ≡ count) }
+    ensures written { IfOk result (λ r. StandsAt (documents_bytes r.docs.items) at bytes.now) }
+    ensures end { IfOk result (λ r. r.end ≡ at + length (documents_bytes r.docs.items)) }
+    ensures within { IfOk result (λ r. at ≤ length bytes.now → r.end ≤ length bytes.now) }
 {
     let all = all_at(alloc, bytes, at, count)?;
     Ok(DocumentsRead {

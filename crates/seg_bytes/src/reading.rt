@@ -82,7 +82,11 @@ fn suggestions_at(
 }
 
 /// A document with its number.
-pub(crate) fn document_at(alloc: Global, bytes: &[u8], at: usize) -> Result<Field<Numbered>, ReadError>
+pub(crate) fn document_at(
+    alloc: Global,
+    bytes: &[u8],
+    at: usize,
+) -> Result<Field<Numbered>, ReadError>
     ensures { Reads (λ d. d) (document_is bytes.now at) result }
 {
     let seq = u64_at(bytes, at)?;

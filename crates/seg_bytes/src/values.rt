@@ -1,15 +1,6 @@
 //! The fields of documents, each with its limits.
-#![tactic(
-    auto,
-    using(
-        crate::proofs::ReadingLemmas::refusal,
-        crate::proofs::ReadingLemmas::tested_is,
-        crate::proofs::ReadingLemmas::tested_broken,
-        crate::proofs::ReadingLemmas::tested_refused,
-        crate::proofs::ReadingLemmas::taken_is,
-        crate::proofs::ReadingLemmas::taken_refused
-    )
-)]
+#![tactic(auto, using(crate::proofs::ReadingLemmas::refusal, crate::proofs::ReadingLemmas::tested_is, crate::proofs::ReadingLemmas::tested_broken, crate::proofs::ReadingLemmas::tested_refused, crate::proofs::ReadingLemmas::taken_is, crate::proofs::ReadingLemmas::taken_refused))]
+
 ghost use Rattle.std.specs.Prelude.{◌≡◌, ◌≤◌, ◌<◌, IfOk, length};
 ghost use Rattle.std.specs.Int.{w8, w16, w32};
 ghost use Rattle.sg_base.specs.declared.limits.TheConstants.{MOST_WEIGHT};

@@ -1,11 +1,13 @@
 //! Documents as bytes.
-ghost use Rattle.std.specs.Prelude.{◌≡◌, ◌≤◌, ◌<◌, ◌+◌, ◌*◌, ◌++◌, ◌∷◌, OnErr, OnOk, length};
-ghost use Rattle.std.specs.Vec.{vec_capacity, vec_len};
+ghost use Rattle.std.specs.Prelude.{◌≡◌, ◌≤◌, ◌<◌, ◌+◌, ◌++◌, OnErr, OnOk, length};
+ghost use Rattle.std.specs.Vec.{vec_capacity};
 ghost use Rattle.std.specs.Int.{to_be_bytes, w16, w32, w64};
 ghost use Rattle.std.specs.List.{flat_map};
 ghost use Rattle.sg_paths.specs.declared.limits.TheConstants.{MOST_SEGMENT_DOCUMENTS};
 ghost use Rattle.seg_bytes.specs.DocumentBytes.{document_bytes, documents_bytes, short_bytes};
 ghost use Rattle.seg_bytes.specs.DocumentBytes.{suggestion_bytes};
+ghost use Rattle.seg_bytes.specs.DocumentsRead.{documents_at};
+ghost use Rattle.seg_bytes.specs.Laws.{IsReadBack};
 
 use crate::lengths::documents_len;
 use sg_base::Context;
@@ -125,10 +127,13 @@ fn put_each(out: &mut Vec<u8>, docs: &[Numbered]) -> Result<(), AllocError>
     Ok(())
 }
 
-/// Appends documents. Takes its room at once, and none where there is enough.
+/// Appends documents. Takes its room at once, and none where there is enough. They are read back
+/// wherever their bytes stand.
 pub fn put_documents(out: &mut Vec<u8>, docs: &[Numbered]) -> Result<(), AllocError>
     requires { length docs.now ≤ MOST_SEGMENT_DOCUMENTS }
     ensures appended { OnOk result (out.new.items ≡ out.old.items ++ documents_bytes docs.now) }
+    ensures read_back { OnOk result
+        (IsReadBack (documents_at (length docs.now)) (documents_bytes docs.now) docs.now) }
     ensures unchanged { OnErr result (out.new.items ≡ out.old.items) }
     ensures room { vec_capacity out.old ≤ vec_capacity out.new }
     ensures full { OnErr result (vec_capacity out.old

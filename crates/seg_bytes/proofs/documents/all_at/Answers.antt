@@ -14,13 +14,14 @@ returns-in_err-document-clause-value c =
 
 pub loop-preserved : goal.loop-preserved
 loop-preserved c =
-    let pushed = c.in_ok-push.ensures in
-    (subst (λ items. Continues document_at c.args.bytes.now c.args.at c.args.count items
-    c.in_ok-document.document.end (c.loop.counter + 1)) (sym pushed)
-    (one_more document_at c.args.bytes.now c.args.at c.args.count c.loop.docs.items c.loop.end
-    c.loop.counter c.in_ok-document.document.value c.in_ok-document.document.end c.loop-test.true
-    c.in_ok-document.ensures c.loop.invariant.0),
-    grind (arith, common_steps))
+    let pushed = c.in_ok-push.ensures in (
+      subst (λ items. Continues document_at c.args.bytes.now c.args.at c.args.count items
+          c.in_ok-document.document.end (c.loop.counter + 1)) (sym pushed)
+          (one_more document_at c.args.bytes.now c.args.at c.args.count c.loop.docs.items c.loop.end
+          c.loop.counter c.in_ok-document.document.value c.in_ok-document.document.end c.loop-test.true
+          c.in_ok-document.ensures c.loop.invariant.0),
+      grind (arith, common_steps),
+    )
 
 pub returns-clause-value : goal.returns-clause-value
 returns-clause-value c =

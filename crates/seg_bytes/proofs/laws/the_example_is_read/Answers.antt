@@ -10,7 +10,7 @@ use Rattle.seg_bytes.proofs.laws.the_example_is_read.Goals as goal
 
 pub returns : goal.returns
 unfolding part_at number_at text_at tested many_at suggestion_bytes document_bytes suggestion_at
-  document_at wrong_number_after is_utf8 chars encode
+    document_at wrong_number_after is_utf8 chars encode
 returns c = record {
   bytes = refl;
   read = refl;

@@ -1,5 +1,5 @@
 -- One more number, one that is wrong, and the last.
-use Rattle.std.proofs.Common.{◌≡◌, ◌+◌, ℕ, Bool, true, false, ◌&&◌, length, drop, sym, ap, ◌∙◌}
+use Rattle.std.proofs.Common.{◌+◌, ◌&&◌, drop, sym, ap, ◌∙◌}
 use Rattle.std.proofs.Common.{arith}
 use Rattle.std.specs.Prelude.{nat_lt, nat_le}
 use Rattle.seg_bytes.specs.declared.limits.TheConstants.{MOST_SEQ}
@@ -24,16 +24,17 @@ loop-numbered-preserved c =
     let rest = drop (c.loop-numbered.numbered-index + 1) c.args.docs.now in
     let value = c.document_len-start.ensures.value in
     let more = length_more document_bytes c.args.docs.now c.loop-numbered.numbered-index
-        c.numbered-item.result c.loop-numbered-test.true c.numbered-item.is in
-    let so_far = c.loop-numbered.invariant.1 in
-    (ap (λ n. wrong_number_after n (c.loop-numbered.start + c.document_len-start.result) rest) seq
-    ∙ ap (λ n. wrong_number_after c.numbered-item.result.seq (c.loop-numbered.start + n) rest) value
-    ∙ sym (one_rises c.args.docs.now c.loop-numbered.numbered-index c.numbered-item.result
-    c.loop-numbered.last c.loop-numbered.start c.loop-numbered-test.true c.numbered-item.is
-    (ap (λ n. nat_lt c.loop-numbered.last n && nat_le n MOST_SEQ) (sym seq)
-    ∙ sym c.if-not-may_follow.ensures))
-    ∙ c.loop-numbered.invariant.0,
-    omega (arith, value, more, so_far))
+    c.numbered-item.result c.loop-numbered-test.true c.numbered-item.is in
+    let so_far = c.loop-numbered.invariant.1 in (
+      ap (λ n. wrong_number_after n (c.loop-numbered.start + c.document_len-start.result) rest) seq
+          ∙ ap (λ n. wrong_number_after c.numbered-item.result.seq (c.loop-numbered.start + n) rest) value
+          ∙ sym (one_rises c.args.docs.now c.loop-numbered.numbered-index c.numbered-item.result
+          c.loop-numbered.last c.loop-numbered.start c.loop-numbered-test.true c.numbered-item.is
+          (ap (λ n. nat_lt c.loop-numbered.last n && nat_le n MOST_SEQ) (sym seq)
+          ∙ sym c.if-not-may_follow.ensures))
+          ∙ c.loop-numbered.invariant.0,
+      omega (arith, value, more, so_far),
+    )
 
 pub returns : goal.returns
 returns c =

@@ -14,13 +14,14 @@ returns-in_err-context-clause-value c =
 
 pub loop-preserved : goal.loop-preserved
 loop-preserved c =
-    let pushed = c.in_ok-push.ensures in
-    (subst (λ items. Continues context_at c.args.bytes.now c.args.at c.args.count items
-    c.in_ok-context.context.end (c.loop.counter + 1)) (sym pushed)
-    (one_more context_at c.args.bytes.now c.args.at c.args.count c.loop.contexts.items c.loop.end
-    c.loop.counter c.in_ok-context.context.value c.in_ok-context.context.end c.loop-test.true
-    c.in_ok-context.ensures c.loop.invariant.0),
-    grind (arith, common_steps))
+    let pushed = c.in_ok-push.ensures in (
+      subst (λ items. Continues context_at c.args.bytes.now c.args.at c.args.count items
+          c.in_ok-context.context.end (c.loop.counter + 1)) (sym pushed)
+          (one_more context_at c.args.bytes.now c.args.at c.args.count c.loop.contexts.items c.loop.end
+          c.loop.counter c.in_ok-context.context.value c.in_ok-context.context.end c.loop-test.true
+          c.in_ok-context.ensures c.loop.invariant.0),
+      grind (arith, common_steps),
+    )
 
 pub returns-clause-value : goal.returns-clause-value
 returns-clause-value c =

@@ -14,13 +14,14 @@ returns-in_err-suggestion-clause-value c =
 
 pub loop-preserved : goal.loop-preserved
 loop-preserved c =
-    let pushed = c.in_ok-push.ensures in
-    (subst (λ items. Continues suggestion_at c.args.bytes.now c.args.at c.args.count items
-    c.in_ok-suggestion.suggestion.end (c.loop.counter + 1)) (sym pushed)
-    (one_more suggestion_at c.args.bytes.now c.args.at c.args.count c.loop.suggestions.items c.loop.end
-    c.loop.counter c.in_ok-suggestion.suggestion.value c.in_ok-suggestion.suggestion.end c.loop-test.true
-    c.in_ok-suggestion.ensures c.loop.invariant.0),
-    grind (arith, common_steps))
+    let pushed = c.in_ok-push.ensures in (
+      subst (λ items. Continues suggestion_at c.args.bytes.now c.args.at c.args.count items
+          c.in_ok-suggestion.suggestion.end (c.loop.counter + 1)) (sym pushed)
+          (one_more suggestion_at c.args.bytes.now c.args.at c.args.count c.loop.suggestions.items c.loop.end
+          c.loop.counter c.in_ok-suggestion.suggestion.value c.in_ok-suggestion.suggestion.end c.loop-test.true
+          c.in_ok-suggestion.ensures c.loop.invariant.0),
+      grind (arith, common_steps),
+    )
 
 pub returns-clause-value : goal.returns-clause-value
 returns-clause-value c =

@@ -8,5 +8,5 @@ use Rattle.seg_bytes.proofs.writing.put_contexts.Given as goal
 abbrev pub invariant-loop-context : goal.invariant-loop-context
 invariant-loop-context l =
     (l.out.items ++ flat_map short_bytes (drop l.context-index l.contexts)
-      ≡ l.fn.out.items ++ flat_map short_bytes l.contexts)
+    ≡ l.fn.out.items ++ flat_map short_bytes l.contexts)
     × (vec_capacity l.fn.out ≤ vec_capacity l.out)

@@ -8,5 +8,5 @@ use Rattle.seg_bytes.proofs.writing.put_each.Given as goal
 abbrev pub invariant-loop-numbered : goal.invariant-loop-numbered
 invariant-loop-numbered l =
     (l.out.items ++ flat_map document_bytes (drop l.numbered-index l.docs)
-      ≡ l.fn.out.items ++ flat_map document_bytes l.docs)
+    ≡ l.fn.out.items ++ flat_map document_bytes l.docs)
     × (vec_capacity l.fn.out ≤ vec_capacity l.out)

@@ -8,5 +8,5 @@ use Rattle.seg_bytes.proofs.writing.put_suggestions.Given as goal
 abbrev pub invariant-loop-suggestion : goal.invariant-loop-suggestion
 invariant-loop-suggestion l =
     (l.out.items ++ flat_map suggestion_bytes (drop l.suggestion-index l.suggestions)
-      ≡ l.fn.out.items ++ flat_map suggestion_bytes l.suggestions)
+    ≡ l.fn.out.items ++ flat_map suggestion_bytes l.suggestions)
     × (vec_capacity l.fn.out ≤ vec_capacity l.out)
