@@ -44,3 +44,4 @@ pub mod LiveLemmas
 pub mod SpentLemmas
 pub mod ReportLemmas
 pub mod WholeLemmas
+pub mod EndingLemmas

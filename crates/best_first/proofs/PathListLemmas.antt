@@ -1,12 +1,12 @@
 -- The list of all paths of documents is what a search needs of it.
-use Rattle.std.proofs.Common.{◌≡◌, ◌≤◌, ◌<◌, ◌⊎◌, inl, inr, ℕ, Bool, true, false, ◌&&◌, ◌||◌}
+use Rattle.std.proofs.Common.{◌≡◌, ◌≤◌, ◌<◌, ◌+◌, ◌⊎◌, inl, inr, ℕ, Bool, true, false, ◌&&◌, ◌||◌}
 use Rattle.std.proofs.Common.{nat_eq, nat_lt, Option, Some, None, List, [], ◌∷◌, ◌++◌, length, map}
 use Rattle.std.proofs.Common.{refl, sym, ap, ◌∙◌, subst, arith}
-use Rattle.std.specs.Cmp.Lexicographic.{bytes_decides}
 use Rattle.std.specs.Prelude.{count_by, bytes_eq}
+use Rattle.std.specs.List.{AllByRecursion}
+use Rattle.std.specs.Cmp.Lexicographic.{bytes_decides}
 use Rattle.std.proofs.lemmas.Bool.{cases_order, and_parts, and_from}
 use Rattle.std.proofs.lemmas.Bool.Decides.{nat_tests}
-use Rattle.std.proofs.lemmas.List.{append-nil}
 use Rattle.std.proofs.lemmas.List.Elements.{recursion_from_All}
 use Rattle.std.proofs.lemmas.List.Sums.{count_by-le-length, length-filter}
 use Rattle.sg_base.specs.ByteStrings.{is_less}
@@ -18,6 +18,7 @@ use Rattle.sg_base.proofs.ListLemmas.{each_in}
 use Rattle.sg_paths.specs.AllPaths.{Entry, FullPath, path_entries, entry_cmp, is_alike}
 use Rattle.sg_paths.specs.AllPaths.{number_after, numbered, all_paths, path_bytes}
 use Rattle.sg_paths.specs.Operations.{PlainNumbered}
+use Rattle.std.proofs.lemmas.List.{append-nil}
 use Rattle.sg_paths.specs.PathLaws.{IsAhead, IsLegal, RisesFrom, Rises, comes_before}
 use Rattle.sg_paths.proofs.NumberLemmas.{numbers_count}
 use Rattle.sg_paths.proofs.RiseLemmas.{legal_clean, paths_rise, length-all_paths}

@@ -1,18 +1,18 @@
 -- When a search is done, and what it answers, over its matching paths. No public clause cites it.
 -- Source: this project's own.
-use Rattle.std.specs.Ordering.{is_lt}
 use Rattle.std.specs.Prelude.{ℕ, ◌≡◌, ◌<◌, ◌≤◌, ◌+◌, ◌-◌, Bool, true, false, not, ◌||◌, nat_lt}
 use Rattle.std.specs.Prelude.{nat_le, if◌then◌else◌, List, length, take, filter, Option, Some, None}
 use Rattle.std.specs.Prelude.{slice_get}
-use Rattle.sg_base.specs.ByteStrings.{begins}
-use Rattle.sg_base.specs.Cuts.{PlainCut, mark_cmp, row_mark, cut_mark, precedes}
+use Rattle.std.specs.Ordering.{is_lt}
 use Rattle.sg_base.specs.Lists.{In}
-use Rattle.sg_base.specs.Rows.{ranked}
+use Rattle.sg_base.specs.Cuts.{PlainCut, mark_cmp, row_mark, cut_mark, precedes}
 use Rattle.sg_base.specs.declared.rank.Rank.{Rank}
-use Rattle.path_desk.specs.Desks.{PlainDesk, is_settled}
-use Rattle.best_first.specs.Listings.{mark_of_match}
+use Rattle.sg_base.specs.ByteStrings.{begins}
+use Rattle.sg_base.specs.Rows.{ranked}
 use Rattle.best_first.specs.Lists.{passing}
+use Rattle.path_desk.specs.Desks.{PlainDesk, is_settled}
 use Rattle.best_first.specs.Matches.{Match, ranks_of}
+use Rattle.best_first.specs.Listings.{mark_of_match}
 
 -- the k-th row
 abbrev pub last_row : ℕ → List Rank → Option Rank

@@ -1,8 +1,8 @@
 -- What a segment's documents and nodes have to do with each other: what a search may rely on.
 -- Source: Lucene's suggest.document, where a transducer maps the suggestions of a segment's
 -- documents.
-use Rattle.std.specs.List.{AllByRecursion}
 use Rattle.std.specs.Prelude.{ℕ, ◌≡◌, ◌<◌, ◌≤◌, List, [], length, get_or}
+use Rattle.std.specs.List.{AllByRecursion}
 use Rattle.sg_base.specs.Lists.{Pairs}
 use Rattle.sg_base.specs.declared.node.Edge.{Edge}
 use Rattle.sg_paths.specs.AllPaths.{all_paths}

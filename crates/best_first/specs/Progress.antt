@@ -1,7 +1,7 @@
 -- What holds of a search between two steps. No public clause cites it. Source: this project's own.
+use Rattle.std.specs.Prelude.{ℕ, ◌≡◌, ◌≤◌, ◌+◌, true, false, ◌⊎◌, ⊤, List, [], ◌∷◌}
+use Rattle.std.specs.Prelude.{length, Option, Some, None}
 use Rattle.std.specs.Ordering.{is_lt}
-use Rattle.std.specs.Prelude.{ℕ, ◌≡◌, ◌≤◌, ◌+◌, true, false, ◌⊎◌, ⊤, List, [], ◌∷◌, length, Option}
-use Rattle.std.specs.Prelude.{Some, None}
 use Rattle.sg_base.specs.Cuts.{Mark, mark_cmp}
 use Rattle.sg_base.specs.Lists.{In, Pairs}
 use Rattle.path_desk.specs.Entries.{Queued, entry_cmp, mark_of}
@@ -44,7 +44,7 @@ pub record Progress (all : List Match) (P : Queued → Type 0) (reached : List M
   pub counted : length taken ≡ count
   pub cover : (m : Match) → In m all
       → passing (λ t. covers m t.now) taken + (passing (covers m) pending
-      + (passing (covers m) waiting + passing (covers m) dropped)) ≡ 1
+          + (passing (covers m) waiting + passing (covers m) dropped)) ≡ 1
   pub taken_sound : (t : Taken) → In t taken → Best all t.now × P t.now
   pub left_sound : (e : Queued) → Left pending waiting dropped e → Best all e × P e
   pub rising : Pairs (λ a b. is_lt (entry_cmp a b) ≡ true) waiting
@@ -53,13 +53,13 @@ pub record Progress (all : List Match) (P : Queued → Type 0) (reached : List M
   pub fits : length waiting + count ≤ room
   pub full : (dropped ≡ []) ⊎ (length waiting + count ≡ room)
   pub start_order : Pairs (λ b a. a.now.entry.start ≡ b.now.entry.start
-      → is_lt (entry_cmp a.now b.now) ≡ true) taken
+          → is_lt (entry_cmp a.now b.now) ≡ true) taken
   pub start_left : (t : Taken) (e : Queued) → In t taken → Left pending waiting dropped e
       → t.now.entry.start ≡ e.entry.start → is_lt (entry_cmp t.now e) ≡ true
   pub best_first : (t : Taken) (e : Queued) → In t taken → Left pending waiting dropped e
       → is_lt (mark_cmp (mark_of e) t.was) ≡ false
   pub key_order : Pairs (λ b a. a.now.entry.start ≡ b.now.entry.start
-      → is_lt (mark_cmp b.was (mark_of a.now)) ≡ false) taken
+          → is_lt (mark_cmp b.was (mark_of a.now)) ≡ false) taken
   pub was_order : Pairs (λ b a. is_lt (mark_cmp b.was a.was) ≡ false) taken
   pub grown : (t : Taken) → In t taken
       → (is_lt (mark_cmp (mark_of t.now) t.was) ≡ false) × (t.now.entry.score ≡ t.was.score)

@@ -6,11 +6,11 @@ use Rattle.sg_base.specs.Lists.{In}
 use Rattle.sg_base.specs.declared.node.Edge.{Edge}
 use Rattle.fst_code.specs.Lists.{root_paths}
 use Rattle.fst_code.specs.Tails.{Tail}
-use Rattle.path_desk.specs.Desks.{PlainDesk, put_entry}
-use Rattle.path_desk.specs.Entries.{Queued, queued}
 use Rattle.path_desk.specs.declared.entry.Entry.{Entry}
-use Rattle.best_first.specs.Families.{IsFamily}
+use Rattle.path_desk.specs.Entries.{Queued, queued}
+use Rattle.path_desk.specs.Desks.{PlainDesk, put_entry}
 use Rattle.best_first.specs.Matches.{Match, Ends}
+use Rattle.best_first.specs.Families.{IsFamily}
 
 -- the entry behind an arc of an entry's node
 abbrev pub child_entry : Entry → Edge → Entry

@@ -6,5 +6,8 @@ mod loading;
 mod parts;
 mod reaching;
 mod rows;
+mod searching;
+mod sizing;
 
 pub use parts::SegParts;
+pub use searching::search;

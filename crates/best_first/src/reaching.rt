@@ -4,11 +4,11 @@ ghost use Rattle.std.specs.Prelude.{IsSome, if◌then◌else◌, nat_le};
 ghost use Rattle.sg_base.specs.Ranking.{IsKept};
 ghost use Rattle.sg_base.specs.Rows.{put_row, ranked};
 ghost use Rattle.sg_paths.specs.AllPaths.{all_paths};
-ghost use Rattle.sg_context.specs.Queries.{PlainQuery};
+ghost use Rattle.sg_answers.specs.Reports.{live_of, viewed_segment, queue_size};
 ghost use Rattle.path_desk.specs.Desks.{path_ended};
 ghost use Rattle.collector.specs.Hits.{row_of, rows_of};
 ghost use Rattle.best_first.specs.Ends.{last_row, is_done};
-ghost use Rattle.best_first.specs.Followed.{FollowsPath, BetweenPaths, SearchesFor, IsOver};
+ghost use Rattle.best_first.specs.Followed.{FollowsPath, BetweenPaths, HasBegun, ClosesAs};
 ghost use Rattle.best_first.specs.Followed.{setting, starts_of};
 ghost use Rattle.best_first.specs.Hits.{path_at, hit_of, IsHitOf};
 ghost use Rattle.best_first.specs.Matches.{Match, ranks_of};
@@ -123,18 +123,22 @@ pub fn reach_all<S: SegParts<L>, L>(
     top: &mut Top,
     steps: &mut Steps<L>,
 ) -> Result<Option<Cut>, AllocError>
-    requires searches { SearchesFor query.now (S.nodes parts.now) (S.listed parts.now) live.now }
+    requires begun { HasBegun query.now (S.nodes parts.now) (S.listed parts.now) }
     requires between { (r : List Match)
         × BetweenPaths query.now (S.nodes parts.now) (S.listed parts.now) live.now r top.old.k
         desk.old (rows_of (S.key_of parts.now) top.old.hits) }
     requires marks { length live.now ≡ length (S.listed parts.now) }
+    requires live { 0 < length (live_of (S.listed parts.now) live.now) }
     requires hits { All (IsHitOf (S.listed parts.now) piece) top.old.hits }
     requires kept { IsKept (rows_of (S.key_of parts.now) top.old.hits) }
-    requires k { (top.old.k ≡ query.now.k) × (1 ≤ query.now.k) }
+    requires k { top.old.k ≡ query.now.k }
+    requires room { desk.old.room ≡ queue_size query.now.k
+        (viewed_segment generation (S.listed parts.now) live.now) }
     requires fresh { desk.old.reached ≡ 0 }
     requires one { one_start ≡ nat_le (length (starts_of (S.nodes parts.now) query.now)) 1 }
-    ensures over { IfOk result (λ cut. IsOver query.now (S.nodes parts.now) (S.listed parts.now)
-        live.now desk.old.room generation (rows_of (S.key_of parts.now) top.new.hits) cut) }
+    ensures search { IfOk result (λ cut. ClosesAs query.now
+        (viewed_segment generation (S.listed parts.now) live.now) top.new.k
+        (row_of (S.key_of parts.now)) top.new.hits cut) }
     ensures hits { All (IsHitOf (S.listed parts.now) piece) top.new.hits }
     ensures kept { IsKept (rows_of (S.key_of parts.now) top.new.hits) }
     ensures k { top.new.k ≡ top.old.k }

@@ -1,6 +1,9 @@
 -- Each start that is given is put in, until none is left.
-use Rattle.std.proofs.Common.{◌≡◌, ◌∙◌, ap, sym, subst, refl, arith, [], ◌≤◌, ◌<◌, ◌+◌, length}
+use Rattle.std.proofs.Common.{true, ◌≡◌, ◌∙◌, ap, sym, subst, refl, arith, [], ◌≤◌, ◌<◌, ◌+◌, length}
+use Rattle.sg_base.specs.ByteStrings.{lacks}
+use Rattle.sg_context.specs.Queries.{PlainQuery, IsQuery}
 use Rattle.best_first.specs.Roots.{Loading}
+use Rattle.best_first.proofs.EndingLemmas.{key_lacks_end}
 use Rattle.best_first.proofs.LoadLemmas.{loading-new, loading-end, start_cost, count_within}
 use Rattle.best_first.proofs.LoadLemmas.{loaded-next, fewer-left}
 use Rattle.best_first.proofs.loading.load_starts.Goals as goal
@@ -54,8 +57,8 @@ loop-start-preserved g c =
           (c.as_slice-prefix.ensures.value ∙ ap (λ q. q.prefix) c.query.view_is)
           c.in_ok-put_start.ensures.ok;
       ticks = omega (arith, a, b);
-      lists = c.in_ok-put_start.ensures.lists.0 ∙ c.loop-start.invariant.lists;
-      need = c.in_ok-put_start.ensures.lists.1 ∙ c.loop-start.invariant.need;
+      lists = c.in_ok-put_start.ensures.lists ∙ c.loop-start.invariant.lists;
+      need = c.in_ok-put_start.ensures.need ∙ c.loop-start.invariant.need;
     }
 
 pub returns-clause-loaded : goal.returns-clause-loaded
@@ -67,3 +70,15 @@ returns-clause-loaded g c =
       l.2,
       l.3,
     )
+
+pub returns-clause-query : goal.returns-clause-query
+returns-clause-query g c =
+    (subst IsQuery c.query.view_is c.query.invariant,
+     subst (λ (q : PlainQuery). lacks 0 q.prefix ≡ true) c.query.view_is
+     (key_lacks_end c.query.inside.prefix c.as_slice-prefix.ensures.key))
+
+pub returns-in_err-put_start-clause-query : goal.returns-in_err-put_start-clause-query
+returns-in_err-put_start-clause-query g c =
+    (subst IsQuery c.query.view_is c.query.invariant,
+     subst (λ (q : PlainQuery). lacks 0 q.prefix ≡ true) c.query.view_is
+     (key_lacks_end c.query.inside.prefix c.as_slice-prefix.ensures.key))
