@@ -61,7 +61,7 @@ impl Lists {
         })
     }
 
-    /// Sees to it that there are two lists, with these places. Takes no memory where they are there.
+    /// Sees to it that there are two lists, with these places. Takes no memory where there are.
     pub fn reserve(&mut self, alloc: Global, places: u32) -> Result<(), AllocError>
         ensures ok { OnOk result (self.new ≡ lists_of places 2) }
         ensures err { OnErr result (self.new ≡ self.old) }

@@ -1,0 +1,6 @@
+//! The tests of the search layer: worked examples, and each public call on its happy path. What a
+//! contract says isn't tested again.
+#![tactic(auto)]
+
+#[cfg(test)]
+mod desk;
