@@ -17,13 +17,12 @@ returns-in_err-document-clause-value c =
 pub loop-preserved : goal.loop-preserved
 loop-preserved c =
     let bytes = c.args.bytes.now in
-    let out = c.loop.docs.items in
-    let item = c.in_ok-document.document in (
-      subst
-          (λ items. Continues document_at bytes c.args.at c.args.count items item.end (c.loop.counter + 1))
-          (sym c.in_ok-push.ensures)
-          (one_more document_at bytes c.args.at c.args.count out c.loop.end c.loop.counter item.value
-          item.end c.loop-test.true c.in_ok-document.ensures c.loop.invariant.0),
+    let item = c.in_ok-document.document in
+    let more = one_more document_at bytes c.args.at c.args.count c.loop.docs.items c.loop.end
+    c.loop.counter item.value item.end c.loop-test.true c.in_ok-document.ensures
+    c.loop.invariant.0 in (
+      subst (λ items. Continues document_at bytes c.args.at c.args.count
+          items item.end (c.loop.counter + 1)) (sym c.in_ok-push.ensures) more,
       grind (arith, common_steps),
     )
 

@@ -17,13 +17,12 @@ returns-in_err-context-clause-value c =
 pub loop-preserved : goal.loop-preserved
 loop-preserved c =
     let bytes = c.args.bytes.now in
-    let out = c.loop.contexts.items in
-    let item = c.in_ok-context.context in (
-      subst
-          (λ items. Continues context_at bytes c.args.at c.args.count items item.end (c.loop.counter + 1))
-          (sym c.in_ok-push.ensures)
-          (one_more context_at bytes c.args.at c.args.count out c.loop.end c.loop.counter item.value
-          item.end c.loop-test.true c.in_ok-context.ensures c.loop.invariant.0),
+    let item = c.in_ok-context.context in
+    let more = one_more context_at bytes c.args.at c.args.count c.loop.contexts.items c.loop.end
+    c.loop.counter item.value item.end c.loop-test.true c.in_ok-context.ensures
+    c.loop.invariant.0 in (
+      subst (λ items. Continues context_at bytes c.args.at c.args.count
+          items item.end (c.loop.counter + 1)) (sym c.in_ok-push.ensures) more,
       grind (arith, common_steps),
     )
 

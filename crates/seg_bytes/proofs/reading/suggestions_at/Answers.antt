@@ -17,17 +17,16 @@ returns-in_err-suggestion-clause-value c =
 pub loop-preserved : goal.loop-preserved
 loop-preserved c =
     let bytes = c.args.bytes.now in
-    let out = c.loop.suggestions.items in
-    let item = c.in_ok-suggestion.suggestion in (
-      subst
-          (λ items. Continues suggestion_at bytes c.args.at c.args.count items item.end (c.loop.counter + 1))
-          (sym c.in_ok-push.ensures)
-          (one_more suggestion_at bytes c.args.at c.args.count out c.loop.end c.loop.counter item.value
-          item.end c.loop-test.true c.in_ok-suggestion.ensures c.loop.invariant.0),
+    let item = c.in_ok-suggestion.suggestion in
+    let more = one_more suggestion_at bytes c.args.at c.args.count c.loop.suggestions.items
+    c.loop.end c.loop.counter item.value item.end c.loop-test.true c.in_ok-suggestion.ensures
+    c.loop.invariant.0 in (
+      subst (λ items. Continues suggestion_at bytes c.args.at c.args.count
+          items item.end (c.loop.counter + 1)) (sym c.in_ok-push.ensures) more,
       grind (arith, common_steps),
     )
 
 pub returns-clause-value : goal.returns-clause-value
 returns-clause-value c =
-    all_read suggestion_at c.args.bytes.now c.args.at c.args.count c.loop.suggestions.items c.loop.end
-    c.loop.counter (omega (arith, c.loop-test.false)) c.loop.invariant.0
+    all_read suggestion_at c.args.bytes.now c.args.at c.args.count c.loop.suggestions.items
+    c.loop.end c.loop.counter (omega (arith, c.loop-test.false)) c.loop.invariant.0
