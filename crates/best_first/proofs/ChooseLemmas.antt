@@ -1,39 +1,30 @@
 -- The followed path goes on along one arc, and the other arcs become entries to put in.
-use Rattle.std.proofs.Common.{◌≡◌, ◌≤◌, ◌+◌, ℕ, Bool, true, false, cond}
-use Rattle.std.proofs.Common.{inl, inr, List, [], ◌∷◌, length, refl, sym, ap}
-use Rattle.std.proofs.Common.{◌∙◌, subst, arith}
+use Rattle.std.proofs.Common.{◌≡◌, ◌≤◌, ◌+◌, ℕ, Bool, true, false, cond, inl, inr, List, [], ◌∷◌}
+use Rattle.std.proofs.Common.{length, refl, sym, ap, ◌∙◌, subst, arith}
 use Rattle.std.specs.Prelude.{Option, Some, None}
 use Rattle.std.proofs.lemmas.List.{append-nil}
-use Rattle.sg_base.proofs.Orders.{at_most_trans}
 use Rattle.sg_base.specs.ByteStrings.{begins}
-use Rattle.sg_base.proofs.MarkLemmas.{mark_lt, marks_ordered}
 use Rattle.sg_base.specs.Lists.{In, Pairs}
+use Rattle.sg_base.proofs.MarkLemmas.{mark_lt, marks_ordered}
+use Rattle.sg_base.proofs.Orders.{at_most_trans}
 use Rattle.path_desk.specs.Entries.{Queued, mark_of}
 use Rattle.path_desk.proofs.OrderLemmas.{entry_lt}
-use Rattle.best_first.proofs.EntryLemmas.{mark_of-under, stays_before}
+use Rattle.best_first.specs.Families.{IsChild, IsFamily}
 use Rattle.best_first.specs.Lists.{passing, Beside}
 use Rattle.best_first.specs.Matches.{Match, covers, Best, Ends}
 use Rattle.best_first.specs.Progress.{Taken, IsCurrent, ended_of, Left, Progress}
-use Rattle.best_first.specs.Families.{IsChild, IsFamily}
-use Rattle.best_first.proofs.ListLemmas.{passing-in}
 use Rattle.best_first.proofs.CoverLemmas.{not_begun}
+use Rattle.best_first.proofs.EntryLemmas.{mark_of-under, stays_before}
+use Rattle.best_first.proofs.ListLemmas.{passing-in}
 
 abbrev goes_on : Queued → Taken → Taken
 goes_on c t = record { now = c; was = t.was }
-
-abbrev moved_on : Queued → List Taken → List Taken
-moved_on c [] = []
-moved_on c (t ∷ older) = goes_on c t ∷ older
 
 -- fields that speak of the taken ones, over a list with a first one
 module _ (all : List Match) (P : Queued → Type 0) (reached : List Match) (room : ℕ) (p c : Queued)
     (siblings waiting : List Queued) (count : ℕ) (first : Option Queued)
     (s : Progress all P reached room [] waiting count first (Some p))
-        (f : IsFamily all P p c siblings) where
-
-  abbrev Before : List Taken → Type 0
-  Before ts = s.taken ≡ ts
-
+    (f : IsFamily all P p c siblings) where
   under : (e : Queued) → IsChild p e → mark_lt (mark_of e) (mark_of p) ≡ false
   under e h = mark_of-under p e (h.0 ∷ []) h.2 h.3
 
@@ -55,11 +46,11 @@ module _ (all : List Match) (P : Queued → Type 0) (reached : List Match) (room
         older + (0 + (passing (covers m) waiting + passing (covers m) s.dropped)) ≡ 1
     cover_now m i =
         let Q : List Taken → Type 0 = λ ts. passing (λ u. covers m u.now)
-            ts + (0 + (passing (covers m) waiting + passing (covers m) s.dropped)) ≡ 1 in
+        ts + (0 + (passing (covers m) waiting + passing (covers m) s.dropped)) ≡ 1 in
         let h : Q (t ∷ older) = subst Q is (s.cover m i) in
         subst (λ z. cond (covers m z) 1 0 + passing (λ u. covers m u.now)
-                older + (0 + (passing (covers m) waiting + passing (covers m) s.dropped)) ≡ 1)
-            now_is h
+        older + (0 + (passing (covers m) waiting + passing (covers m) s.dropped)) ≡ 1)
+        now_is h
 
     pairs : (R : Taken → Taken → Type 0) → Pairs R s.taken → Pairs R (t ∷ older)
     pairs R h = subst (Pairs R) is h
@@ -99,8 +90,8 @@ module _ (all : List Match) (P : Queued → Type 0) (reached : List Match) (room
         → entry_lt a.now p ≡ true
     older_before a i e =
         let h : a.now.entry.start ≡ t.now.entry.start → entry_lt a.now t.now ≡ true =
-            (pairs (λ b a. a.now.entry.start ≡ b.now.entry.start → entry_lt a.now b.now ≡ true)
-                s.start_order).0 a i in
+        (pairs (λ b a. a.now.entry.start ≡ b.now.entry.start → entry_lt a.now b.now ≡ true)
+        s.start_order).0 a i in
         subst (λ z. a.now.entry.start ≡ z.entry.start → entry_lt a.now z ≡ true) now_is h e
 
     older_before_child : (a : Taken) → In a older → (e : Queued) → IsChild p e
@@ -108,7 +99,7 @@ module _ (all : List Match) (P : Queued → Type 0) (reached : List Match) (room
     older_before_child a i e h same =
         let start : a.now.entry.start ≡ p.entry.start = same ∙ h.1 in
         stays_before a.now p a.now e [] (h.0 ∷ []) start refl h.1 (sym (append-nil a.now.bytes)) h.2
-            refl h.3
+        refl h.3
         (not_begun all a.now p best_now (older_apart a i) start) (older_before a i start)
 
     -- the chosen child is before all that is left of the start
@@ -117,22 +108,25 @@ module _ (all : List Match) (P : Queued → Type 0) (reached : List Match) (room
         let ch = f.child in
         let start : p.entry.start ≡ e.entry.start = sym ch.1 ∙ same in
         let h : entry_lt t.now e ≡ true =
-            s.start_left t e first_taken l (ap (λ z. z.entry.start) now_is ∙ start) in
+        s.start_left t e first_taken l (ap (λ z. z.entry.start) now_is ∙ start) in
         let h' : entry_lt p e ≡ true = subst (λ z. entry_lt z e ≡ true) now_is h in
         let none : begins p.bytes e.bytes ≡ false =
-            not_begun all p e (s.left_sound e l).0 (left_apart e l) start in
+        not_begun all p e (s.left_sound e l).0 (left_apart e l) start in
         let le : e.entry.score ≤ e.entry.score = omega arith in
         stays_before p e c e (ch.0 ∷ []) [] start ch.1 refl ch.2 (sym (append-nil e.bytes))
-            f.same_score le none h'
+        f.same_score le none h'
 
     abbrev New : Queued → Type 0
     New e = Left siblings waiting s.dropped e
 
     choose_cover : (m : Match) → In m all
         → cond (covers m c) 1 0 + passing (λ u. covers m u.now)
-            older + (passing (covers m) siblings + (passing (covers m) waiting + passing (covers m)
-                    s.dropped)) ≡ 1
-    choose_cover m i = let h = cover_now m i in let g = f.parted m i in omega (arith, h, g)
+        older + (passing (covers m) siblings + (passing (covers m) waiting + passing (covers m)
+        s.dropped)) ≡ 1
+    choose_cover m i =
+        let h = cover_now m i in
+        let g = f.parted m i in
+        omega (arith, h, g)
 
     choose_sound : (u : Taken) → In u (goes_on c t ∷ older) → Best all u.now × P u.now
     choose_sound u (inl h) = subst (λ z. Best all z.now × P z.now) (sym h) f.child_sound
@@ -180,9 +174,11 @@ module _ (all : List Match) (P : Queued → Type 0) (reached : List Match) (room
         → (mark_lt (mark_of u.now) u.was ≡ false) × (u.now.entry.score ≡ u.was.score)
     choose_grown u (inl h) =
         subst (λ z. (mark_lt (mark_of z.now) z.was ≡ false) × (z.now.entry.score ≡ z.was.score))
-            (sym h)
-        (was_before c (under c f.child), f.same_score ∙ ap (λ z. z.entry.score) (sym now_is)
-                ∙ (s.grown t first_taken).1)
+        (sym h) (
+          was_before c (under c f.child),
+          f.same_score ∙ ap (λ z. z.entry.score) (sym now_is)
+              ∙ (s.grown t first_taken).1,
+        )
     choose_grown u (inr h) = s.grown u (older_taken u h)
 
     choose_at : Progress all P reached room siblings waiting count first (Some c)
@@ -198,19 +194,25 @@ module _ (all : List Match) (P : Queued → Type 0) (reached : List Match) (room
       is_first = s.is_first;
       fits = s.fits;
       full = s.full;
-      start_order = (λ a i same. older_before_child a i c f.child same,
-              (pairs (λ b a. a.now.entry.start ≡ b.now.entry.start → entry_lt a.now b.now ≡ true)
-                  s.start_order).1);
+      start_order = (
+        λ a i same. older_before_child a i c f.child same,
+        (pairs (λ b a. a.now.entry.start ≡ b.now.entry.start → entry_lt a.now b.now ≡ true)
+            s.start_order).1,
+      );
       start_left = choose_start;
       best_first = choose_best;
-      key_order = (λ a i same. (pairs
-                  (λ b a. a.now.entry.start ≡ b.now.entry.start
-                      → mark_lt b.was (mark_of a.now) ≡ false) s.key_order).0 a i
-              (same ∙ f.child.1 ∙ ap (λ z. z.entry.start) (sym now_is)),
-              (pairs (λ b a. a.now.entry.start ≡ b.now.entry.start
-                      → mark_lt b.was (mark_of a.now) ≡ false) s.key_order).1);
-      was_order = ((pairs (λ b a. mark_lt b.was a.was ≡ false) s.was_order).0,
-              (pairs (λ b a. mark_lt b.was a.was ≡ false) s.was_order).1);
+      key_order = (
+        λ a i same. (pairs
+            (λ b a. a.now.entry.start ≡ b.now.entry.start
+            → mark_lt b.was (mark_of a.now) ≡ false) s.key_order).0 a i
+            (same ∙ f.child.1 ∙ ap (λ z. z.entry.start) (sym now_is)),
+        (pairs (λ b a. a.now.entry.start ≡ b.now.entry.start
+            → mark_lt b.was (mark_of a.now) ≡ false) s.key_order).1,
+      );
+      was_order = (
+        (pairs (λ b a. mark_lt b.was a.was ≡ false) s.was_order).0,
+        (pairs (λ b a. mark_lt b.was a.was ≡ false) s.was_order).1,
+      );
       grown = choose_grown;
       is_current = refl;
       ended = subst (λ z. Beside (λ u m. Ends all u.now m) (ended_of (Some p) z) reached) is
@@ -229,8 +231,7 @@ module _ (all : List Match) (P : Queued → Type 0) (reached : List Match) (room
 module _ (all : List Match) (P : Queued → Type 0) (reached : List Match) (room : ℕ) (p : Queued)
     (pending waiting : List Queued) (count : ℕ) (first : Option Queued)
     (s : Progress all P reached room pending waiting count first (Some p)) (m : Match)
-        (e : Ends all p m) where
-
+    (e : Ends all p m) where
   reach_ended : (ts : List Taken) → IsCurrent (Some p) ts
       → Beside (λ u n. Ends all u.now n) (ended_of (Some p) ts) reached
       → Beside (λ u n. Ends all u.now n) ts (m ∷ reached)
@@ -263,7 +264,7 @@ module _ (all : List Match) (P : Queued → Type 0) (reached : List Match) (room
 -- before anything is put in
 pub progress-begin : (all : List Match) (P : Queued → Type 0) (room : ℕ) (pending : List Queued)
     → ((m : Match) → In m all → passing (covers m) pending ≡ 1)
-        → ((e : Queued) → In e pending → Best all e × P e)
+    → ((e : Queued) → In e pending → Best all e × P e)
     → Progress all P [] room pending [] 0 None None
 progress-begin all P room pending cover sound = record {
   taken = [];
@@ -271,9 +272,11 @@ progress-begin all P room pending cover sound = record {
   counted = refl;
   cover = λ m i. let h = cover m i in omega (arith, h);
   taken_sound = λ t i. elim i [ ];
-  left_sound = λ e l. elim l as (λ _. Best all e × P e)
-      [ inl i ↦ sound e i | inr j ↦ elim j as (λ _. Best all e × P e)
-          [ inl i ↦ elim i [ ] | inr i ↦ elim i [ ] ] ];
+  left_sound = λ e l. elim l as (λ _. Best all e × P e) [
+    | inl i ↦ sound e i
+    | inr j ↦ elim j as (λ _. Best all e × P e)
+        [ inl i ↦ elim i [ ] | inr i ↦ elim i [ ] ]
+  ];
   rising = tt;
   before = λ q d i j. elim i [ ];
   is_first = refl;

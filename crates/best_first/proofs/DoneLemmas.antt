@@ -1,39 +1,36 @@
 -- A search is done before its queue is empty: its rows are the first of all.
-use Rattle.std.proofs.Common.{◌≡◌, ◌≤◌, ◌<◌, ◌-◌, ◌⊎◌, inl, inr, ℕ, zero, suc, Bool, true}
-use Rattle.std.proofs.Common.{false, cond, ◌&&◌, List, [], ◌∷◌, length}
-use Rattle.std.proofs.Common.{take, refl, sym, ap, ◌∙◌, subst, arith}
-use Rattle.std.specs.Prelude.{Option, Some, None, slice_get, slice_index_or, nat_lt}
+use Rattle.std.proofs.Common.{◌≡◌, ◌≤◌, ◌<◌, ◌-◌, ◌⊎◌, inl, inr, ℕ, zero, suc, Bool, true, false}
+use Rattle.std.proofs.Common.{cond, List, [], ◌∷◌, length, take, refl, sym, ap, ◌∙◌, subst, arith}
+use Rattle.std.specs.Cmp.Lexicographic.{slice_cmp}
 use Rattle.std.specs.Ordering.{is_lt, nat_cmp, ordering_then}
+use Rattle.std.specs.Prelude.{Option, Some, None, slice_get, slice_index_or, nat_lt}
 use Rattle.std.specs.declared.cmp.Ordering.{Ordering}
 use Rattle.std.specs.declared.cmp.Ordering.TheVariants.{Less, Equal, Greater}
-use Rattle.std.specs.Cmp.Lexicographic.{slice_cmp}
-use Rattle.std.proofs.lemmas.Bool.{ltb-true, ltb-false}
-use Rattle.std.proofs.lemmas.List.{append-nil}
+use Rattle.std.proofs.lemmas.Bool.{false_from_ne_true, and_parts, ltb-true, ltb-false}
+use Rattle.std.proofs.lemmas.List.{length-take-le, append-nil}
 use Rattle.sg_base.specs.Cuts.{Mark, mark_cmp, row_mark}
 use Rattle.sg_base.specs.Lists.{In, Pairs}
-use Rattle.sg_base.specs.declared.rank.Rank.{Rank}
-use Rattle.sg_base.proofs.Orders.{at_most_itself, weaken, below_at_most}
-use Rattle.sg_base.proofs.MarkLemmas.{mark_lt, marks_ordered}
 use Rattle.sg_base.specs.Rows.{ranked}
+use Rattle.sg_base.specs.declared.rank.Rank.{Rank}
+use Rattle.sg_base.proofs.MarkLemmas.{mark_lt, marks_ordered}
+use Rattle.sg_base.proofs.Orders.{at_most_itself, weaken, below_at_most}
 use Rattle.sg_base.proofs.RankingLemmas.{rank_lt, ranks_ordered, Ascending}
-use Rattle.path_desk.specs.Entries.{Queued, queued, mark_of, rest_part}
 use Rattle.path_desk.specs.Desks.{PlainDesk, is_settled, is_before, taken_room}
+use Rattle.path_desk.specs.Entries.{Queued, queued, mark_of, rest_part}
 use Rattle.path_desk.proofs.OrderLemmas.{entry_lt}
-use Rattle.best_first.proofs.EntryLemmas.{mark_of-below, stays_before, within_start, begun_rest}
-use Rattle.best_first.specs.Ends.{last_row, is_done}
+use Rattle.collector.proofs.ListLemmas.{in-take, pairs-take}
 use Rattle.collector.proofs.RankingLemmas.{is_ranking-ranked}
-use Rattle.best_first.proofs.RowLemmas.{in-take}
-use Rattle.collector.proofs.ListLemmas.{pairs-take}
-use Rattle.best_first.specs.Matches.{Match, covers, Best, Ends, ranks_of}
+use Rattle.best_first.specs.Ends.{last_row, is_done}
 use Rattle.best_first.specs.Listings.{IsListing}
+use Rattle.best_first.specs.Matches.{Match, covers, Best, Ends, ranks_of}
 use Rattle.best_first.specs.Progress.{Taken, IsFirst, Left, Progress}
 use Rattle.best_first.specs.Segments.{Between}
+use Rattle.best_first.proofs.CompleteLemmas.{complete-late, complete-settled, in-ranks_of}
+use Rattle.best_first.proofs.CompleteLemmas.{beside-back}
+use Rattle.best_first.proofs.CoverLemmas.{covers-start, covers-bytes, not_begun}
+use Rattle.best_first.proofs.EntryLemmas.{mark_of-below, stays_before, within_start, begun_rest}
 use Rattle.best_first.proofs.ListLemmas.{passing-in}
 use Rattle.best_first.proofs.SearchLemmas.{index-in}
-use Rattle.best_first.proofs.CoverLemmas.{covers-start, covers-bytes, not_begun}
-use Rattle.best_first.proofs.CompleteLemmas.{complete-late}
-use Rattle.best_first.proofs.CompleteLemmas.{complete-settled, in-ranks_of}
-use Rattle.best_first.proofs.CompleteLemmas.{beside-back}
 
 -- what holds of the desk between two paths
 pub between-progress : (all : List Match) (P : Queued → Type 0) (reached : List Match) (k : ℕ)
@@ -41,7 +38,7 @@ pub between-progress : (all : List Match) (P : Queued → Type 0) (reached : Lis
     → Progress all P reached d.room [] d.waiting d.reached d.dropped None
 between-progress all P reached k d rows b =
     subst (λ o. Progress all P reached d.room [] d.waiting (taken_room d.reached o) d.dropped None)
-        b.idle b.searching.progress
+    b.idle b.searching.progress
 
 last_at : (x e d : Rank) (xs : List Rank) → Ascending (x ∷ xs) → In e (x ∷ xs)
     → rank_lt (slice_index_or (x ∷ xs) (length xs) d) e ≡ false
@@ -51,8 +48,8 @@ last_at x e d [] up (inr i) = elim i [ ]
 last_at x e d (y ∷ ys) up (inl i) =
     subst (λ z. rank_lt (slice_index_or (y ∷ ys) (length ys) d) z ≡ false) (sym i)
     (weaken rank_lt ranks_ordered x (slice_index_or (y ∷ ys) (length ys) d)
-            (up.0 (slice_index_or (y ∷ ys) (length ys) d)
-                (index-in (y ∷ ys) d (length ys) (omega arith))))
+    (up.0 (slice_index_or (y ∷ ys) (length ys) d)
+    (index-in (y ∷ ys) d (length ys) (omega arith))))
 last_at x e d (y ∷ ys) up (inr i) = last_at y e d ys up.1 i
 
 -- none is after the last
@@ -68,16 +65,12 @@ front_lt Less t r h = refl
 front_lt Equal t r h = cc
 front_lt Greater t r h = cc
 
-no_true : (c : Bool) → (c ≡ true → ⊥) → c ≡ false
-no_true true f = absurd (f refl)
-no_true false f = refl
-
 -- an entry that isn't after another has no later mark
 pub mark_at_most : (x y : Queued) → entry_lt x y ≡ false → mark_lt (mark_of x) (mark_of y) ≡ false
 mark_at_most x y h =
-    no_true (mark_lt (mark_of x) (mark_of y)) (λ e.
+    false_from_ne_true (mark_lt (mark_of x) (mark_of y)) (λ e.
     let up = front_lt (mark_cmp (mark_of x) (mark_of y)) (nat_cmp x.entry.start y.entry.start)
-        (slice_cmp nat_cmp (rest_part x.bytes) (rest_part y.bytes)) e in
+    (slice_cmp nat_cmp (rest_part x.bytes) (rest_part y.bytes)) e in
     let never : true ≡ false = sym up ∙ h in cc)
 
 row_in_at : (k : ℕ) (b : Bool) (rows : List Rank) (r : Rank) → nat_lt (length rows) k ≡ b
@@ -110,11 +103,6 @@ get_index [] n r d e = cc
 get_index (x ∷ xs) zero r d e = let t : Some r ≡ Some x = sym e in (let q : r ≡ x = cc in q)
 get_index (x ∷ xs) (suc n) r d e = get_index xs n r d e
 
-take_length : {X : Type 0} (k : ℕ) (xs : List X) → k ≤ length xs → length (take k xs) ≡ k
-take_length zero xs h = refl
-take_length (suc k) [] h = absurd (omega arith)
-take_length (suc k) (x ∷ xs) h = let r = take_length k xs (omega arith) in omega (arith, r)
-
 pub taken_length : {X : Type 0} (k : ℕ) (xs : List X) → k ≤ length (take k xs) → k ≤ length xs
 taken_length zero xs h = omega arith
 taken_length (suc k) [] h = absurd (omega arith)
@@ -139,19 +127,17 @@ module _ (all : List Match) (P : Queued → Type 0) (reached : List Match) (star
       let n : length rows ≡ length (take k (ranked (ranks_of reached))) = ap length b.kept in
       let low = h.0 in
       let long : k ≤ length (ranked (ranks_of reached)) =
-          taken_length k (ranked (ranks_of reached)) (omega (arith, n, low)) in
+      taken_length k (ranked (ranks_of reached)) (omega (arith, n, low)) in
       let at_last : slice_get (take k (ranked (ranks_of reached))) (k - 1) ≡ Some w =
-          subst (λ zs. slice_get zs (k - 1) ≡ Some w) b.kept h.1 in
-      (long, λ x i. subst (λ z. rank_lt z x ≡ false)
-              (sym (get_index (take k (ranked (ranks_of reached))) (k - 1) w w at_last))
-        (last-greatest (take k (ranked (ranks_of reached))) k x w ascending
-                (take_length k (ranked (ranks_of reached)) long) i))
+      subst (λ zs. slice_get zs (k - 1) ≡ Some w) b.kept h.1 in (
+        long,
+        λ x i. subst (λ z. rank_lt z x ≡ false)
+            (sym (get_index (take k (ranked (ranks_of reached))) (k - 1) w w at_last))
+            (last-greatest (take k (ranked (ranks_of reached))) k x w ascending
+            (length-take-le k (ranked (ranks_of reached)) long) i),
+      )
 
   -- settled
-
-  both : (c e : Bool) → (c && e) ≡ true → (c ≡ true) × (e ≡ true)
-  both true e h = (refl, h)
-  both false e h = cc
 
   settled_queue : (m : Mark) (ws : List Queued) → Pairs (λ a c. entry_lt a c ≡ true) ws
       → is_before m (slice_get ws 0) ≡ true → (e : Queued) → In e ws → mark_lt m (mark_of e) ≡ true
@@ -169,15 +155,15 @@ module _ (all : List Match) (P : Queued → Type 0) (reached : List Match) (star
   all_settled : (m : Mark) → is_settled d m ≡ true → (e : Queued) → In e d.waiting ⊎ In e s.dropped
       → mark_lt m (mark_of e) ≡ true
   all_settled m h e (inl i) = settled_queue m d.waiting s.rising
-      (both (is_before m (slice_get d.waiting 0)) (is_before m d.dropped) h).0 e i
+      (and_parts (is_before m (slice_get d.waiting 0)) (is_before m d.dropped) h).0 e i
   all_settled m h e (inr i) = settled_dropped m d.dropped s.dropped s.is_first
-      (both (is_before m (slice_get d.waiting 0)) (is_before m d.dropped) h).1 e i
+      (and_parts (is_before m (slice_get d.waiting 0)) (is_before m d.dropped) h).1 e i
 
   pub done-settled : (w : Rank) → last_row k rows ≡ Some w → is_settled d (row_mark w) ≡ true
       → rows ≡ take k (ranked (ranks_of all))
   done-settled w e h =
       b.kept ∙ complete-settled all P reached d.room starts d.waiting d.reached d.dropped s l k w
-          (last_is w e).0 (all_settled (row_mark w) h) (last_is w e).1
+      (last_is w e).0 (all_settled (row_mark w) h) (last_is w e).1
 
   -- one start
 
@@ -185,8 +171,15 @@ module _ (all : List Match) (P : Queued → Type 0) (reached : List Match) (star
   zero_below n h o = omega arith
 
   abbrev under : Queued → Match → Queued
-  under e m = queued (record { score = m.rank.score; start = e.entry.start; boost =
-              e.entry.boost; node = e.entry.node; cost = e.entry.cost; ordinal = e.entry.ordinal })
+  under e m = queued (record {
+    score = m.rank.score;
+    start = e.entry.start;
+    boost =
+        e.entry.boost;
+    node = e.entry.node;
+    cost = e.entry.cost;
+    ordinal = e.entry.ordinal;
+  })
       m.bytes
 
   taken_apart : (t : Taken) (e : Queued) → In t s.taken → In e d.waiting ⊎ In e s.dropped
@@ -209,7 +202,7 @@ module _ (all : List Match) (P : Queued → Type 0) (reached : List Match) (star
   pub reached-before : starts ≤ 1 → (n m : Match) → In n reached → In m all → (e : Queued)
       → In e d.waiting ⊎ In e s.dropped → covers m e ≡ true
       → is_lt (ordering_then (nat_cmp m.rank.score n.rank.score)
-              (slice_cmp nat_cmp n.bytes m.bytes)) ≡ true
+      (slice_cmp nat_cmp n.bytes m.bytes)) ≡ true
   reached-before one n m i j e left c =
       let r = beside-back (λ (u : Taken) z. Ends all u.now z) n s.taken reached s.ended i in
       let t = r.0 in
@@ -217,7 +210,7 @@ module _ (all : List Match) (P : Queued → Type 0) (reached : List Match) (star
       let best_t : Best all t.now = (s.taken_sound t r.1).0 in
       let best_e : Best all e = (s.left_sound e (left_of e left)).0 in
       let st : t.now.entry.start ≡ 0 =
-          covers-start n t.now ends.over ∙ zero_below n.start (l.within n ends.of) one in
+      covers-start n t.now ends.over ∙ zero_below n.start (l.within n ends.of) one in
       let se : e.entry.start ≡ 0 = covers-start m e c ∙ zero_below m.start (l.within m j) one in
       let same : t.now.entry.start ≡ e.entry.start = st ∙ sym se in
       let before : entry_lt t.now e ≡ true = s.start_left t e r.1 (left_of e left) same in
@@ -226,34 +219,34 @@ module _ (all : List Match) (P : Queued → Type 0) (reached : List Match) (star
       let score : n.rank.score ≡ t.now.entry.score = ap (λ z. z.rank.score) (sym is_n) ∙ w.3 in
       let u = begun_rest e.bytes m.bytes (covers-bytes m e c) in
       let h = stays_before t.now e t.now (under e m) [] u.0 same refl refl
-          (sym (append-nil t.now.bytes)) u.1 refl (best_e.bound m j c)
-        (not_begun all t.now e best_e (taken_apart t e r.1 left) same) before in
+      (sym (append-nil t.now.bytes)) u.1 refl (best_e.bound m j c)
+      (not_begun all t.now e best_e (taken_apart t e r.1 left) same) before in
       let h' = sym (ap is_lt (within_start t.now (under e m) same)) ∙ h in
       subst (λ z. is_lt (ordering_then (nat_cmp m.rank.score z) (slice_cmp nat_cmp n.bytes m.bytes))
-              ≡ true) (sym score)
+      ≡ true) (sym score)
       (subst (λ z. is_lt (ordering_then (nat_cmp m.rank.score t.now.entry.score)
-                      (slice_cmp nat_cmp z m.bytes)) ≡ true) ends.bytes h')
+      (slice_cmp nat_cmp z m.bytes)) ≡ true) ends.bytes h')
 
   pub done-one_start : starts ≤ 1 → (w : Rank) → last_row k rows ≡ Some w
       → rows ≡ take k (ranked (ranks_of all))
   done-one_start one w e =
       b.kept ∙ complete-late all P reached d.room starts d.waiting d.reached d.dropped s l k
-          (last_is w e).0
+      (last_is w e).0
       (λ m i over x j.
       let y = in-ranks_of x reached ((is_ranking-ranked (ranks_of reached)).from x
-              (in-take x k (ranked (ranks_of reached)) j)) in
+      (in-take x k (ranked (ranks_of reached)) j)) in
       let z = beside-back (λ (u : Taken) v. Ends all u.now v) y.0 s.taken reached s.ended y.1 in
       let sm : y.0.start ≡ m.start =
-          zero_below y.0.start (l.within y.0 z.2.of) one
-          ∙ sym (zero_below m.start (l.within m i) one) in
+      zero_below y.0.start (l.within y.0 z.2.of) one
+      ∙ sym (zero_below m.start (l.within m i) one) in
       subst (λ q. rank_lt q m.rank ≡ true) (sym y.3)
-          (l.ordered y.0 m z.2.of i sm (reached-before one y.0 m y.1 i over.0 over.1 over.2)))
+      (l.ordered y.0 m z.2.of i sm (reached-before one y.0 m y.1 i over.0 over.1 over.2)))
 
 done_at : (all : List Match) (P : Queued → Type 0) (reached : List Match) (starts k : ℕ)
     (d : PlainDesk) (rows : List Rank) (b : Between all P reached k d rows)
     (l : IsListing all starts) (one : Bool) (o : Option Rank)
     → last_row k rows ≡ o → (one ≡ true → starts ≤ 1) → is_done one d o ≡ true
-        → rows ≡ take k (ranked (ranks_of all))
+    → rows ≡ take k (ranked (ranks_of all))
 done_at all P reached starts k d rows b l one None e f h = cc
 done_at all P reached starts k d rows b l true (Some w) e f h =
     done-one_start all P reached starts k d rows b l (f refl) w e
@@ -264,6 +257,6 @@ pub done : (all : List Match) (P : Queued → Type 0) (reached : List Match) (st
     (d : PlainDesk) (rows : List Rank) → Between all P reached k d rows → IsListing all starts
     → (one : Bool)
     → (one ≡ true → starts ≤ 1) → is_done one d (last_row k rows) ≡ true
-        → rows ≡ take k (ranked (ranks_of all))
+    → rows ≡ take k (ranked (ranks_of all))
 done all P reached starts k d rows b l one f h =
     done_at all P reached starts k d rows b l one (last_row k rows) refl f h

@@ -1,5 +1,5 @@
 -- A search of documents that is done, or whose queue is empty, answers what a search must.
-use Rattle.std.proofs.Common.{◌≡◌, ◌≤◌, ◌<◌, ◌∙◌, ℕ, Bool, true, false, List, [], length, map, sym, ap}
+use Rattle.std.proofs.Common.{◌≡◌, ◌≤◌, ◌<◌, ◌∙◌, ℕ, Bool, true, false, List, [], length, map, sym}
 use Rattle.std.proofs.Common.{arith, not, ◌&&◌, eqb, refl, ◌∷◌}
 use Rattle.std.specs.Prelude.{Option, None, option_map, nat_le}
 use Rattle.std.specs.List.{list_all}
@@ -11,19 +11,25 @@ use Rattle.sg_base.specs.Keys.{is_key, is_key_byte}
 use Rattle.sg_base.specs.declared.hit.Hit.{Hit}
 use Rattle.sg_base.specs.declared.node.Edge.{Edge}
 use Rattle.sg_base.specs.declared.rank.Rank.{Rank}
-use Rattle.sg_context.specs.Queries.{PlainQuery}
+use Rattle.sg_base.specs.declared.reserved.TheConstants.{KEY_END}
+use Rattle.sg_context.specs.Queries.{PlainQuery, IsQuery}
 use Rattle.sg_paths.specs.AllPaths.{all_paths}
 use Rattle.sg_paths.specs.Operations.{PlainNumbered}
 use Rattle.sg_answers.specs.Reports.{live_of, viewed_segment, queue_size}
 use Rattle.fst_walk.proofs.BoolLemmas.{clash}
-use Rattle.path_desk.specs.Desks.{PlainDesk, cut_at}
+use Rattle.path_desk.specs.Desks.{PlainDesk, cut_at, cleared}
+use Rattle.path_desk.specs.declared.entry.Entry.{Entry}
 use Rattle.collector.specs.Tops.{closed}
 use Rattle.best_first.specs.Ends.{last_row, is_done}
 use Rattle.best_first.specs.Followed.{HasBegun, BetweenPaths, ClosesAs, starts_of, setting}
 use Rattle.best_first.specs.Matches.{Match}
 use Rattle.best_first.specs.Met.{IsMet}
+use Rattle.best_first.specs.Parts.{AreDocuments, IsMapping}
 use Rattle.best_first.specs.PathMatches.{all_matches, match_at}
-use Rattle.best_first.specs.Segments.{IsSegment}
+use Rattle.best_first.specs.Roots.{AreRoots}
+use Rattle.best_first.specs.Segments.{IsSegment, started}
+use Rattle.best_first.specs.Steps.{put_all}
+use Rattle.best_first.proofs.BetweenLemmas.{between-begin}
 use Rattle.best_first.proofs.ClosingLemmas.{Answers, closed-done, closed-ended}
 use Rattle.best_first.proofs.SearchesLemmas.{segment_of}
 use Rattle.best_first.proofs.SegmentLemmas.{roots_length}
@@ -67,8 +73,8 @@ module _ (query : PlainQuery) (nodes : List (List Edge)) (ds : List PlainNumbere
 
   search_from : (cut : Option PlainCut)
       → Answers (all_matches (setting query nodes ds marks) (all_paths ds)) query.prefix
-          (length begun.roots) k d.room generation (map row (closed k row hits cut).hits)
-          (closed k row hits cut).cut
+      (length begun.roots) k d.room generation (map row (closed k row hits cut).hits)
+      (closed k row hits cut).cut
       → ClosesAs query (viewed_segment generation ds marks) k row hits cut
   search_from cut h = search_of query ds marks nodes generation begun.roots begun.documents
       begun.mapping begun.is_query begun.key begun.are_roots live k d.room same room
@@ -99,3 +105,16 @@ module _ (query : PlainQuery) (nodes : List (List Edge)) (ds : List PlainNumbere
       (IsMet (setting query nodes ds marks) nodes) nodes
       (match_at (setting query nodes ds marks) (all_paths ds)) begun.roots query.prefix segment
       reached k d row hits between one generation empty some going is_one cut e)
+
+-- the starts are put in, and nothing is reached yet
+pub begun : (query : PlainQuery) (nodes : List (List Edge)) (ds : List PlainNumbered)
+    (marks : List Bool) → AreDocuments ds × IsMapping nodes ds
+    → IsQuery query × (lacks KEY_END query.prefix ≡ true) → (roots : List Entry)
+    → AreRoots query nodes 0 (starts_of nodes query) roots → (d0 d1 d2 : PlainDesk) (room k : ℕ)
+    → d1 ≡ cleared d0 room → d2 ≡ put_all d1 (started query.prefix roots)
+    → BetweenPaths query nodes ds marks [] k d2 [] × (d2.room ≡ room) × (d2.reached ≡ 0)
+begun query nodes ds marks stands is roots are d0 d1 d2 room k q1 q2 =
+    between-begin (all_matches (setting query nodes ds marks) (all_paths ds))
+    (IsMet (setting query nodes ds marks) nodes) nodes
+    (match_at (setting query nodes ds marks) (all_paths ds)) roots query.prefix
+    (segment_of query ds nodes marks roots stands.0 stands.1 is.0 is.1 are) d0 d1 d2 room k q1 q2

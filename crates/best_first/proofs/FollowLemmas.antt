@@ -1,5 +1,5 @@
 -- What is known of the entry at which a path is followed.
-use Rattle.std.proofs.Common.{◌≡◌, ◌<◌, ◌+◌, ◌-◌, ◌∷◌, ◌++◌, ℕ, List, length, map, take, drop, sym}
+use Rattle.std.proofs.Common.{◌≡◌, ◌<◌, ◌+◌, ◌-◌, ℕ, List, length, map, take, drop, sym}
 use Rattle.std.proofs.Common.{subst, [], Bool, ap, ◌∙◌}
 use Rattle.std.specs.Prelude.{slice_index_or}
 use Rattle.sg_base.specs.Lists.{In}
@@ -60,7 +60,8 @@ module _ (s : Setting) (nodes : List (List Edge)) (ds : List PlainNumbered) (r :
   suggestion z = f.searches.suggestion e.ordinal no_path (ordinal z)
 
   pub ends : e.node.0 ≡ 0
-      → Ends (all_matches s (all_paths ds)) (queued e (path_of d)) (match_at s (all_paths ds) e.ordinal)
+      → Ends (all_matches s (all_paths ds)) (queued e (path_of d))
+      (match_at s (all_paths ds) e.ordinal)
   ends z = f.searches.knows.end (queued e (path_of d)) met z
 
   pub end_score : e.node.0 ≡ 0 → (match_at s (all_paths ds) e.ordinal).rank.score ≡ e.score

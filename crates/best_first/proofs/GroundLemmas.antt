@@ -20,8 +20,7 @@ use Rattle.fst_walk.specs.Starts.{start_contexts}
 use Rattle.fst_walk.proofs.AscendingLemmas.{Ascends, less_itself}
 use Rattle.fst_walk.proofs.BeginLemmas.{begins-cancel}
 use Rattle.fst_walk.proofs.BoolLemmas.{clash}
-use Rattle.fst_walk.proofs.ContextLemmas.{start_from, start_parts, member_no_end}
-use Rattle.fst_walk.proofs.ContextLemmas.{Ascends-starts}
+use Rattle.fst_walk.proofs.ContextLemmas.{start_from, start_parts, member_no_end, Ascends-starts}
 use Rattle.best_first.specs.Parts.{AreDocuments, IsMapping}
 use Rattle.best_first.specs.PathMatches.{tail_of, bytes_of, setting_of, seq_at, no_document}
 use Rattle.best_first.proofs.Grounds.{IsGround}
@@ -36,9 +35,9 @@ doc_within k (d ∷ ds) e i =
     elim (in-append e (map (entry_of k) (paths d.document)) (path_entries (k + 1) ds) i) as
     (λ _. e.doc < k + suc (length ds)) [
       | inl j ↦
-        let r = in-map (entry_of k) e (paths d.document) j in
-        let q : e.doc ≡ k = ap (λ (z : Entry). z.doc) r.2 in
-        omega (arith, q)
+          let r = in-map (entry_of k) e (paths d.document) j in
+          let q : e.doc ≡ k = ap (λ (z : Entry). z.doc) r.2 in
+          omega (arith, q)
       | inr j ↦ let h = doc_within (k + 1) ds e j in omega (arith, h)
     ]
 

@@ -1,6 +1,6 @@
 -- A path's document and suggestion are there, and its key is the suggestion's.
-use Rattle.std.proofs.Common.{◌≡◌, ◌≤◌, ◌<◌, ◌+◌, ◌⊎◌, inl, inr, ℕ, zero, suc, List, [], ◌∷◌, map}
-use Rattle.std.proofs.Common.{length, get_or, refl, sym, ap, ◌∙◌, subst, arith}
+use Rattle.std.proofs.Common.{◌≡◌, ◌≤◌, ◌<◌, ◌+◌, inl, inr, ℕ, zero, suc, List, [], ◌∷◌, map}
+use Rattle.std.proofs.Common.{length, get_or, sym, ap, subst, arith}
 use Rattle.sg_base.specs.Lists.{In}
 use Rattle.sg_base.proofs.ListLemmas.{in-append, in-map, in-filter}
 use Rattle.sg_paths.specs.AllPaths.{Entry, FullPath, entry_of, path_entries, all_paths}
@@ -24,9 +24,9 @@ place_least n (s ∷ ss) p i =
     elim (in-append p (map (in_context s n) (contexts_of s.contexts)) (entries_from (n + 1) ss) i)
     as (λ _. n ≤ p.place) [
       | inl j ↦
-        let r = in-map (in_context s n) p (contexts_of s.contexts) j in
-        let q : p.place ≡ n = ap (λ (z : PlainPath). z.place) r.2 in
-        omega (arith, q)
+          let r = in-map (in_context s n) p (contexts_of s.contexts) j in
+          let q : p.place ≡ n = ap (λ (z : PlainPath). z.place) r.2 in
+          omega (arith, q)
       | inr j ↦ let h = place_least (n + 1) ss p j in omega (arith, h)
     ]
 
@@ -41,21 +41,21 @@ suggestion_owns n (s ∷ ss) p zero j e =
     elim (in-append p (map (in_context s n) (contexts_of s.contexts)) (entries_from (n + 1) ss) j)
     as (λ _. Owns (s ∷ ss) zero p.key) [
       | inl k ↦
-        let r = in-map (in_context s n) p (contexts_of s.contexts) k in
-        (omega arith, sym (ap (λ (z : PlainPath). z.key) r.2))
+          let r = in-map (in_context s n) p (contexts_of s.contexts) k in
+          (omega arith, sym (ap (λ (z : PlainPath). z.key) r.2))
       | inr k ↦ let h = place_least (n + 1) ss p k in absurd (omega (arith, h, e))
     ]
 suggestion_owns n (s ∷ ss) p (suc i) j e =
     elim (in-append p (map (in_context s n) (contexts_of s.contexts)) (entries_from (n + 1) ss) j)
     as (λ _. Owns (s ∷ ss) (suc i) p.key) [
       | inl k ↦
-        let r = in-map (in_context s n) p (contexts_of s.contexts) k in
-        let q : p.place ≡ n = ap (λ (z : PlainPath). z.place) r.2 in
-        absurd (omega (arith, q, e))
+          let r = in-map (in_context s n) p (contexts_of s.contexts) k in
+          let q : p.place ≡ n = ap (λ (z : PlainPath). z.place) r.2 in
+          absurd (omega (arith, q, e))
       | inr k ↦
-        let h = suggestion_owns (n + 1) ss p i k (omega (arith, e)) in
-        let l = h.0 in
-        (omega (arith, l), h.1)
+          let h = suggestion_owns (n + 1) ss p i k (omega (arith, e)) in
+          let l = h.0 in
+          (omega (arith, l), h.1)
     ]
 
 document_owns : (d : PlainDocument) (p : PlainPath) → In p (paths d)
@@ -71,18 +71,18 @@ entry_owns k (d ∷ ds) e zero j h =
     elim (in-append e (map (entry_of k) (paths d.document)) (path_entries (k + 1) ds) j) as
     (λ _. Owns d.document.suggestions e.place e.key) [
       | inl l ↦
-        let r = in-map (entry_of k) e (paths d.document) l in
-        subst (λ (z : Entry). Owns d.document.suggestions z.place z.key) (sym r.2)
-        (document_owns d.document r.0 r.1)
+          let r = in-map (entry_of k) e (paths d.document) l in
+          subst (λ (z : Entry). Owns d.document.suggestions z.place z.key) (sym r.2)
+          (document_owns d.document r.0 r.1)
       | inr l ↦ let m = doc_least (k + 1) ds e l in absurd (omega (arith, m, h))
     ]
 entry_owns k (d ∷ ds) e (suc i) j h =
     elim (in-append e (map (entry_of k) (paths d.document)) (path_entries (k + 1) ds) j) as
     (λ _. Owns (suggestions_at ds i) e.place e.key) [
       | inl l ↦
-        let r = in-map (entry_of k) e (paths d.document) l in
-        let q : e.doc ≡ k = ap (λ (z : Entry). z.doc) r.2 in
-        absurd (omega (arith, q, h))
+          let r = in-map (entry_of k) e (paths d.document) l in
+          let q : e.doc ≡ k = ap (λ (z : Entry). z.doc) r.2 in
+          absurd (omega (arith, q, h))
       | inr l ↦ entry_owns (k + 1) ds e i l (omega (arith, h))
     ]
 

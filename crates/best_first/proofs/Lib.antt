@@ -45,3 +45,4 @@ pub mod SpentLemmas
 pub mod ReportLemmas
 pub mod WholeLemmas
 pub mod EndingLemmas
+pub mod SizingLemmas

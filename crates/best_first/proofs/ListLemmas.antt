@@ -1,12 +1,11 @@
 -- Members and counts.
-use Rattle.std.proofs.Common.{◌≡◌, ◌≤◌, ◌+◌, ℕ, suc, Bool, true, false, cond}
-use Rattle.std.proofs.Common.{◌⊎◌, inl, inr, List, [], ◌∷◌, length, refl, sym, ap}
-use Rattle.std.proofs.Common.{subst, arith}
+use Rattle.std.proofs.Common.{◌≡◌, ◌≤◌, ◌+◌, ℕ, suc, Bool, true, false, cond, ◌⊎◌, inl, inr, List}
+use Rattle.std.proofs.Common.{[], ◌∷◌, length, refl, sym, ap, subst, arith}
 use Rattle.std.specs.Ordering.{is_lt}
-use Rattle.sg_base.specs.Ranking.{put_in}
 use Rattle.sg_base.specs.Lists.{In, Pairs}
-use Rattle.path_desk.specs.Entries.{Queued, entry_cmp}
+use Rattle.sg_base.specs.Ranking.{put_in}
 use Rattle.path_desk.specs.Desks.{but_last, last_of}
+use Rattle.path_desk.specs.Entries.{Queued, entry_cmp}
 use Rattle.path_desk.proofs.OrderLemmas.{entry_lt}
 use Rattle.best_first.specs.Lists.{passing}
 
@@ -37,7 +36,7 @@ in_put e x (y ∷ ys) h = in_put_at (entry_lt y x) e x y ys (in_put e x ys) h
 passing_put_at : (b : Bool) (c : Queued → Bool) (x y : Queued) (ys : List Queued)
     → passing c (put_in entry_cmp x ys) ≡ cond (c x) 1 0 + passing c ys
     → passing c (cond b (y ∷ put_in entry_cmp x ys) (x ∷ (y ∷ ys)))
-        ≡ cond (c x) 1 0 + (cond (c y) 1 0 + passing c ys)
+    ≡ cond (c x) 1 0 + (cond (c y) 1 0 + passing c ys)
 passing_put_at true c x y ys e = omega arith
 passing_put_at false c x y ys e = refl
 
@@ -56,7 +55,7 @@ IsApart x ys = (y : Queued) → In y ys → entry_lt y x ≡ false → entry_lt 
 rising_put_at : (b : Bool) (x y : Queued) (ys : List Queued) → entry_lt y x ≡ b
     → (below : (a b c : Queued) → entry_lt a b ≡ true → entry_lt b c ≡ true → entry_lt a c ≡ true)
     → Rising (y ∷ ys) → (entry_lt y x ≡ false → entry_lt x y ≡ true)
-        → Rising (put_in entry_cmp x ys)
+    → Rising (put_in entry_cmp x ys)
     → Rising (cond b (y ∷ put_in entry_cmp x ys) (x ∷ (y ∷ ys)))
 rising_put_at true x y ys is below r apart h = (
   λ e i. elim (in_put e x ys i) as (λ _. entry_lt y e ≡ true)
@@ -64,18 +63,22 @@ rising_put_at true x y ys is below r apart h = (
   h,
 )
 rising_put_at false x y ys is below r apart h =
-    let first : entry_lt x y ≡ true = apart is in
-    (λ e i. elim i as (λ _. entry_lt x e ≡ true)
-            [ inl k ↦ subst (λ z. entry_lt x z ≡ true) (sym k) first | inr k ↦ below x y e first
-                (r.0 e k) ], r)
+    let first : entry_lt x y ≡ true = apart is in (
+      λ e i. elim i as (λ _. entry_lt x e ≡ true) [
+        | inl k ↦ subst (λ z. entry_lt x z ≡ true) (sym k) first
+        | inr k ↦ below x y e first
+            (r.0 e k)
+      ],
+      r,
+    )
 
 pub rising-put : (below : (a b c : Queued) → entry_lt a b ≡ true → entry_lt b c ≡ true
-        → entry_lt a c ≡ true) (x : Queued) (ys : List Queued) → Rising ys → IsApart x ys
+    → entry_lt a c ≡ true) (x : Queued) (ys : List Queued) → Rising ys → IsApart x ys
     → Rising (put_in entry_cmp x ys)
 rising-put below x [] r a = (λ e i. elim i [ ], tt)
 rising-put below x (y ∷ ys) r a =
     rising_put_at (entry_lt y x) x y ys refl below r (a y (inl refl))
-        (rising-put below x ys r.1 (λ z i. a z (inr i)))
+    (rising-put below x ys r.1 (λ z i. a z (inr i)))
 
 -- all but the last
 

@@ -1,23 +1,21 @@
 -- Marks of rows, of matching paths and of entries over them.
-use Rattle.std.proofs.Common.{◌≡◌, ◌≤◌, ℕ, true, false}
-use Rattle.std.proofs.Common.{List, refl}
-use Rattle.std.proofs.Common.{sym, subst, arith}
+use Rattle.std.proofs.Common.{◌≡◌, ◌≤◌, ℕ, true, false, List, refl, sym, subst, arith}
+use Rattle.std.specs.Cmp.Lexicographic.{slice_cmp}
+use Rattle.std.specs.Ordering.{is_lt, is_le, nat_cmp, ordering_then}
 use Rattle.std.specs.declared.cmp.Ordering.{Ordering}
 use Rattle.std.specs.declared.cmp.Ordering.TheVariants.{Less, Equal, Greater}
-use Rattle.std.specs.Ordering.{is_lt, is_le, nat_cmp, ordering_then}
-use Rattle.std.specs.Cmp.Lexicographic.{slice_cmp}
 use Rattle.std.proofs.lemmas.Bool.Decides.{nat_tests}
+use Rattle.sg_base.specs.Cuts.{Mark, mark_cmp, row_mark}
 use Rattle.sg_base.specs.Lists.{In}
 use Rattle.sg_base.specs.declared.rank.Rank.{Rank}
-use Rattle.sg_base.specs.Cuts.{Mark, mark_cmp, row_mark}
 use Rattle.sg_base.proofs.MarkLemmas.{mark_lt}
 use Rattle.sg_base.proofs.RankingLemmas.{rank_lt}
 use Rattle.path_desk.specs.Entries.{Queued, key_part, mark_of}
 use Rattle.path_desk.proofs.Lex.{key_grows}
-use Rattle.best_first.proofs.EntryLemmas.{mark_grows, begun_rest}
-use Rattle.best_first.specs.Matches.{Match, covers, Best}
 use Rattle.best_first.specs.Listings.{IsListing, mark_of_match}
+use Rattle.best_first.specs.Matches.{Match, covers, Best}
 use Rattle.best_first.proofs.CoverLemmas.{covers-bytes}
+use Rattle.best_first.proofs.EntryLemmas.{mark_grows, begun_rest}
 
 front_lt : (o s p : Ordering) → is_lt o ≡ true → is_lt (ordering_then (ordering_then o s) p) ≡ true
 front_lt Less s p h = refl
@@ -37,7 +35,7 @@ mark-under all starts l m e i best c =
     let under = begun_rest e.bytes m.bytes (covers-bytes m e c) in
     let grows : is_le (slice_cmp nat_cmp (key_part e.bytes) (key_part m.bytes)) ≡ true =
     subst (λ z. is_le (slice_cmp nat_cmp (key_part e.bytes) (key_part z)) ≡ true) (sym under.1)
-        (key_grows e.bytes under.0) in
+    (key_grows e.bytes under.0) in
     let key : is_le (slice_cmp nat_cmp (key_part e.bytes) m.rank.key) ≡ true =
     subst (λ z. is_le (slice_cmp nat_cmp (key_part e.bytes) z) ≡ true) (sym (l.keyed m i)) grows in
     mark_grows e.entry.score m.rank.score (key_part e.bytes) m.rank.key (best.bound m i c) key

@@ -3,8 +3,8 @@ use Rattle.std.proofs.Common.{◌≡◌, ◌≤◌, ◌<◌, ◌+◌, ◌-◌, �
 use Rattle.sg_base.specs.Lists.{In, Pairs}
 use Rattle.sg_base.specs.declared.limits.TheConstants.{MOST_WEIGHT}
 use Rattle.sg_base.specs.declared.node.Edge.{Edge}
-use Rattle.path_desk.specs.Entries.{Queued}
 use Rattle.fst_code.specs.Tails.{Tail, along}
+use Rattle.path_desk.specs.Entries.{Queued}
 use Rattle.best_first.specs.Matches.{Match, covers}
 
 -- the way from the end

@@ -1,12 +1,12 @@
 -- The list of all paths of documents is what a search needs of it.
-use Rattle.std.proofs.Common.{◌≡◌, ◌≤◌, ◌<◌, ◌+◌, ◌⊎◌, inl, inr, ℕ, Bool, true, false, ◌&&◌, ◌||◌}
+use Rattle.std.proofs.Common.{◌≡◌, ◌≤◌, ◌<◌, ◌⊎◌, inl, inr, ℕ, Bool, true, false, ◌&&◌, ◌||◌}
 use Rattle.std.proofs.Common.{nat_eq, nat_lt, Option, Some, None, List, [], ◌∷◌, ◌++◌, length, map}
 use Rattle.std.proofs.Common.{refl, sym, ap, ◌∙◌, subst, arith}
-use Rattle.std.specs.Prelude.{count_by, bytes_eq}
-use Rattle.std.specs.List.{AllByRecursion}
 use Rattle.std.specs.Cmp.Lexicographic.{bytes_decides}
+use Rattle.std.specs.Prelude.{count_by, bytes_eq}
 use Rattle.std.proofs.lemmas.Bool.{cases_order, and_parts, and_from}
 use Rattle.std.proofs.lemmas.Bool.Decides.{nat_tests}
+use Rattle.std.proofs.lemmas.List.{append-nil}
 use Rattle.std.proofs.lemmas.List.Elements.{recursion_from_All}
 use Rattle.std.proofs.lemmas.List.Sums.{count_by-le-length, length-filter}
 use Rattle.sg_base.specs.ByteStrings.{is_less}
@@ -18,7 +18,6 @@ use Rattle.sg_base.proofs.ListLemmas.{each_in}
 use Rattle.sg_paths.specs.AllPaths.{Entry, FullPath, path_entries, entry_cmp, is_alike}
 use Rattle.sg_paths.specs.AllPaths.{number_after, numbered, all_paths, path_bytes}
 use Rattle.sg_paths.specs.Operations.{PlainNumbered}
-use Rattle.std.proofs.lemmas.List.{append-nil}
 use Rattle.sg_paths.specs.PathLaws.{IsAhead, IsLegal, RisesFrom, Rises, comes_before}
 use Rattle.sg_paths.proofs.NumberLemmas.{numbers_count}
 use Rattle.sg_paths.proofs.RiseLemmas.{legal_clean, paths_rise, length-all_paths}
@@ -104,8 +103,9 @@ leads_of false false c e f p q r h = cc
 
 tests_of : (e f : Entry) → Leads e f
     → (nat_lt f.weight e.weight || (nat_eq e.weight f.weight && nat_lt e.doc f.doc)) ≡ true
-tests_of e f (inl h) = let l : nat_lt f.weight e.weight ≡ true =
-    grind (arith, nat_tests) in rw l refl
+tests_of e f (inl h) =
+    let l : nat_lt f.weight e.weight ≡ true = grind (arith, nat_tests) in
+    rw l refl
 tests_of e f (inr h) =
     let w = h.0 in
     let d = h.1 in
@@ -190,7 +190,10 @@ numbers_lead ds p r i j c k l =
 
 pub few_entries : (ds : List PlainNumbered) → AreDocuments ds
     → length (path_entries 0 ds) ≤ 4194304
-few_entries ds a = let l = length-all_paths ds in let f = a.few in omega (arith, l, f)
+few_entries ds a =
+    let l = length-all_paths ds in
+    let f = a.few in
+    omega (arith, l, f)
 
 pub is_path_list : (ds : List PlainNumbered) → AreDocuments ds → IsPathList (all_paths ds)
 is_path_list ds a =

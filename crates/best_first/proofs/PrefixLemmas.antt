@@ -1,16 +1,16 @@
 -- The reached paths are the first of the matching paths in order.
-use Rattle.std.proofs.Common.{◌≡◌, ◌≤◌, ◌⊎◌, inl, inr, ℕ, zero, suc, Bool, true}
-use Rattle.std.proofs.Common.{List, [], ◌∷◌, ◌++◌, length, length-append, take, drop, refl, sym, ap}
-use Rattle.std.proofs.Common.{◌∙◌, subst, arith}
-use Rattle.std.specs.Ordering.{is_lt}
+use Rattle.std.proofs.Common.{◌≡◌, ◌≤◌, ◌⊎◌, inl, inr, ℕ, zero, suc, Bool, true, List, [], ◌∷◌}
+use Rattle.std.proofs.Common.{◌++◌, length, length-append, take, drop, refl, sym, ap, ◌∙◌, subst}
+use Rattle.std.proofs.Common.{arith}
 use Rattle.std.specs.Cmp.{IsStrictWeakOrder}
+use Rattle.std.specs.Ordering.{is_lt}
 use Rattle.std.proofs.lemmas.List.MinMax.{ranks_by}
 use Rattle.sg_base.specs.Lists.{In, Pairs}
-use Rattle.sg_base.proofs.Orders.{at_most_itself, not_both, weaken}
 use Rattle.sg_base.proofs.ListLemmas.{in-append}
-use Rattle.best_first.proofs.RowLemmas.{in-append-left, in-append-right}
-use Rattle.best_first.specs.Matches.{Match}
+use Rattle.sg_base.proofs.Orders.{at_most_itself, not_both, weaken}
 use Rattle.best_first.specs.Exact.{match_cmp, match_cmp_total}
+use Rattle.best_first.specs.Matches.{Match}
+use Rattle.best_first.proofs.MemberLemmas.{in-left, in-right}
 
 abbrev pub match_lt : Match → Match → Bool
 match_lt a b = is_lt (match_cmp a b)
@@ -40,21 +40,22 @@ pub record IsAround (y : Match) (xs : List Match) : Type 0 where
 around : (y : Match) (xs : List Match) → In y xs → IsAround y xs
 around y [] i = elim i [ ]
 around y (x ∷ xs) (inl i) = record { us = []; vs = xs; is = ap (λ z. z ∷ xs) (sym i) }
-around y (x ∷ xs) (inr i) = let r =
-    around y xs i in record { us = x ∷ r.us; vs = r.vs; is = ap (λ zs. x ∷ zs) r.is }
+around y (x ∷ xs) (inr i) =
+    let r = around y xs i in
+    record { us = x ∷ r.us; vs = r.vs; is = ap (λ zs. x ∷ zs) r.is }
 
 in_around : (x y : Match) (us vs : List Match) → In x (us ++ y ∷ vs) → (x ≡ y) ⊎ In x (us ++ vs)
 in_around x y us vs i =
     elim (in-append x us (y ∷ vs) i) as (λ _. (x ≡ y) ⊎ In x (us ++ vs)) [
-      inl j ↦ inr (in-append-left x us vs j)
+      | inl j ↦ inr (in-left x us vs j)
       | inr j ↦ elim j as (λ _. (x ≡ y) ⊎ In x (us ++ vs))
-          [ inl e ↦ inl e | inr l ↦ inr (in-append-right x us vs l) ]
+          [ inl e ↦ inl e | inr l ↦ inr (in-right x us vs l) ]
     ]
 
 around_in : (x y : Match) (us vs : List Match) → In x (us ++ vs) → In x (us ++ y ∷ vs)
 around_in x y us vs i =
     elim (in-append x us vs i) as (λ _. In x (us ++ y ∷ vs))
-        [ inl j ↦ in-append-left x us (y ∷ vs) j | inr j ↦ in-append-right x us (y ∷ vs) (inr j) ]
+    [ inl j ↦ in-left x us (y ∷ vs) j | inr j ↦ in-right x us (y ∷ vs) (inr j) ]
 
 distinct_rest : (y : Match) (us vs : List Match) → Distinct (us ++ y ∷ vs) → Distinct (us ++ vs)
 distinct_rest y [] vs d = d.1
@@ -63,12 +64,14 @@ distinct_rest y (u ∷ us) vs d = (λ x i. d.0 x (around_in x y us vs i), distin
 not_again : (x y : Match) (us vs : List Match) → Distinct (us ++ y ∷ vs) → In x (us ++ vs) → x ≡ y
     → ⊥
 not_again x y [] vs d i e = d.0 x i (sym e)
-not_again x y (u ∷ us) vs d (inl i) e = d.0 y (in-append-right y us (y ∷ vs) (inl refl)) (sym i ∙ e)
+not_again x y (u ∷ us) vs d (inl i) e = d.0 y (in-right y us (y ∷ vs) (inl refl)) (sym i ∙ e)
 not_again x y (u ∷ us) vs d (inr i) e = not_again x y us vs d.1 i e
 
 length_around : (y : Match) (us vs : List Match) → length (us ++ y ∷ vs) ≡ suc (length (us ++ vs))
-length_around y us vs = let a = length-append us (y ∷ vs) in let b =
-    length-append us vs in omega (arith, a, b)
+length_around y us vs =
+    let a = length-append us (y ∷ vs) in
+    let b = length-append us vs in
+    omega (arith, a, b)
 
 -- each of the order is one of these, or stands behind all of them
 abbrev pub IsFront : List Match → List Match → Type 0
@@ -78,9 +81,9 @@ first_is_in : (y : Match) (ys : List Match) (r : Match) (rs : List Match) → Ri
     → ((n : Match) → In n (r ∷ rs) → In n (y ∷ ys)) → IsFront (y ∷ ys) (r ∷ rs) → In y (r ∷ rs)
 first_is_in y ys r rs up a c =
     elim (c y (inl refl)) as (λ _. In y (r ∷ rs)) [
-      inl i ↦ i
+      | inl i ↦ i
       | inr f ↦ absurd (elim (a r (inl refl)) as (λ _. ⊥) [
-        inl e ↦ never_before_itself y (subst (λ z. match_lt z y ≡ true) e (f r (inl refl)))
+        | inl e ↦ never_before_itself y (subst (λ z. match_lt z y ≡ true) e (f r (inl refl)))
         | inr j ↦ never_both y r (up.0 r j) (f r (inl refl))
       ])
     ]
@@ -98,8 +101,11 @@ step : (y : Match) (ys R R1 : List Match) → length R ≡ suc (length R1) → I
     → Same (y ∷ ys) R
 step y ys R R1 l own parts back more x =
     subst (λ n. (In x (take n (y ∷ ys)) → In x R) × (In x R → In x (take n (y ∷ ys)))) (sym l) (
-      λ i. elim i as (λ _. In x R) [ inl e ↦ subst (λ z. In z R) (sym e) own | inr j ↦ back x
-              ((more x).0 j) ],
+      λ i. elim i as (λ _. In x R) [
+        | inl e ↦ subst (λ z. In z R) (sym e) own
+        | inr j ↦ back x
+            ((more x).0 j)
+      ],
       λ i. elim (parts x i) as (λ _. (x ≡ y) ⊎ In x (take (length R1) ys))
           [ inl e ↦ inl e | inr j ↦ inr ((more x).1 j) ],
     )
@@ -114,21 +120,21 @@ prefix_is (y ∷ ys) (r ∷ rs) up d a c x =
     let w = around y (r ∷ rs) own in
     let d' : Distinct (w.us ++ y ∷ w.vs) = subst Distinct w.is d in
     let parts : (x : Match) → In x (r ∷ rs) → (x ≡ y) ⊎ In x (w.us ++ w.vs) =
-        λ x i. in_around x y w.us w.vs (subst (λ z. In x z) w.is i) in
+    λ x i. in_around x y w.us w.vs (subst (λ z. In x z) w.is i) in
     let back : (x : Match) → In x (w.us ++ w.vs) → In x (r ∷ rs) =
-        λ x i. subst (λ z. In x z) (sym w.is) (around_in x y w.us w.vs i) in
+    λ x i. subst (λ z. In x z) (sym w.is) (around_in x y w.us w.vs i) in
     step y ys (r ∷ rs) (w.us ++ w.vs) (ap length w.is ∙ length_around y w.us w.vs) own parts back
     (prefix_is ys (w.us ++ w.vs) up.1 (distinct_rest y w.us w.vs d')
-      (λ n i. tail_in n y ys (not_again n y w.us w.vs d' i) (a n (back n i)))
-      (λ m i. elim (c m (inr i)) as (λ _. In m (w.us ++ w.vs)
-                  ⊎ ((n : Match) → In n (w.us ++ w.vs) → match_lt n m ≡ true)) [
-        inl j ↦ elim (parts m j) as (λ _. In m (w.us ++ w.vs)
-                ⊎ ((n : Match) → In n (w.us ++ w.vs) → match_lt n m ≡ true)) [
-          inl e ↦ absurd (never_before_itself y (subst (λ z. match_lt y z ≡ true) e (up.0 m i)))
-          | inr k ↦ inl k
-        ]
-        | inr f ↦ inr (λ n k. f n (back n k))
-      ])) x
+    (λ n i. tail_in n y ys (not_again n y w.us w.vs d' i) (a n (back n i)))
+    (λ m i. elim (c m (inr i)) as (λ _. In m (w.us ++ w.vs)
+    ⊎ ((n : Match) → In n (w.us ++ w.vs) → match_lt n m ≡ true)) [
+      | inl j ↦ elim (parts m j) as (λ _. In m (w.us ++ w.vs)
+          ⊎ ((n : Match) → In n (w.us ++ w.vs) → match_lt n m ≡ true)) [
+            | inl e ↦ absurd (never_before_itself y (subst (λ z. match_lt y z ≡ true) e (up.0 m i)))
+            | inr k ↦ inl k
+          ]
+      | inr f ↦ inr (λ n k. f n (back n k))
+    ])) x
 
 -- what is behind the first n
 pub in-drop_or_take : (x : Match) (n : ℕ) (xs : List Match) → In x xs
@@ -139,12 +145,6 @@ in-drop_or_take x (suc n) (y ∷ ys) (inl e) = inl (inl e)
 in-drop_or_take x (suc n) (y ∷ ys) (inr i) =
     elim (in-drop_or_take x n ys i) as (λ _. In x (take (suc n) (y ∷ ys)) ⊎ In x (drop n ys))
     [ inl j ↦ inl (inr j) | inr j ↦ inr j ]
-
-in_take : (x : Match) (n : ℕ) (xs : List Match) → In x (take n xs) → In x xs
-in_take x zero xs i = elim i [ ]
-in_take x (suc n) [] i = i
-in_take x (suc n) (y ∷ ys) (inl e) = inl e
-in_take x (suc n) (y ∷ ys) (inr i) = inr (in_take x n ys i)
 
 pub in_drop : (x : Match) (n : ℕ) (xs : List Match) → In x (drop n xs) → In x xs
 in_drop x zero xs i = i
@@ -163,11 +163,6 @@ pub rising_drop : (n : ℕ) (xs : List Match) → Rising xs → Rising (drop n x
 rising_drop zero xs up = up
 rising_drop (suc n) [] up = up
 rising_drop (suc n) (x ∷ xs) up = rising_drop n xs up.1
-
-pub take_drop : (n : ℕ) (xs : List Match) → xs ≡ take n xs ++ drop n xs
-take_drop zero xs = refl
-take_drop (suc n) [] = refl
-take_drop (suc n) (x ∷ xs) = ap (λ zs. x ∷ zs) (take_drop n xs)
 
 pub take_of_append : (first : List Match) (rest : List Match) (n : ℕ) → length first ≡ n
     → take n (first ++ rest) ≡ first

@@ -1,25 +1,24 @@
 -- The steps of a search keep what holds of it.
-use Rattle.std.proofs.Common.{◌≡◌, ◌≤◌, ◌<◌, ◌+◌, ℕ, Bool, true, false, cond}
-use Rattle.std.proofs.Common.{◌⊎◌, inl, inr, List, [], ◌∷◌, length, refl, sym, ap}
-use Rattle.std.proofs.Common.{◌∙◌, subst, arith}
+use Rattle.std.proofs.Common.{◌≡◌, ◌≤◌, ◌<◌, ◌+◌, ℕ, Bool, true, false, cond, ◌⊎◌, inl, inr, List}
+use Rattle.std.proofs.Common.{[], ◌∷◌, length, refl, sym, ap, ◌∙◌, subst, arith}
 use Rattle.std.specs.Prelude.{Option, Some, None, nat_lt}
 use Rattle.std.proofs.lemmas.Bool.{ltb-true, ltb-false}
-use Rattle.sg_base.specs.Ranking.{put_in}
-use Rattle.sg_base.proofs.Orders.{at_most_itself, at_most_trans, below_trans, weaken, not_both}
-use Rattle.sg_base.proofs.MarkLemmas.{mark_lt, marks_ordered}
 use Rattle.sg_base.specs.Lists.{In}
-use Rattle.path_desk.specs.Entries.{Queued, entry_cmp, mark_of}
+use Rattle.sg_base.specs.Ranking.{put_in}
+use Rattle.sg_base.proofs.MarkLemmas.{mark_lt, marks_ordered}
+use Rattle.sg_base.proofs.Orders.{at_most_itself, at_most_trans, below_trans, weaken, not_both}
 use Rattle.path_desk.specs.Desks.{PlainQueue, queue, shed, put_queued, but_last, last_of, first_of}
+use Rattle.path_desk.specs.Entries.{Queued, entry_cmp, mark_of}
 use Rattle.path_desk.proofs.OrderLemmas.{entry_lt, entries_ordered}
 use Rattle.path_desk.proofs.QueueLemmas.{length-put_in}
-use Rattle.best_first.proofs.EntryLemmas.{mark_of-below}
 use Rattle.best_first.specs.Lists.{passing}
 use Rattle.best_first.specs.Matches.{Match, covers, Best}
 use Rattle.best_first.specs.Progress.{Taken, IsFirst, Left, Progress}
+use Rattle.best_first.proofs.CoverLemmas.{strictly}
+use Rattle.best_first.proofs.EntryLemmas.{mark_of-below}
 use Rattle.best_first.proofs.ListLemmas.{passing-in, in_put, passing-put, rising-put, Rising}
 use Rattle.best_first.proofs.ListLemmas.{passing-last, in_but_last, in_last, length-but_last}
 use Rattle.best_first.proofs.ListLemmas.{pairs-but_last, before_last}
-use Rattle.best_first.proofs.CoverLemmas.{strictly}
 
 below : (a b c : Queued) → entry_lt a b ≡ true → entry_lt b c ≡ true → entry_lt a c ≡ true
 below a b c p q = below_trans entry_lt entries_ordered a b c p q
@@ -66,7 +65,7 @@ module _ (all : List Match) (P : Queued → Type 0) (reached : List Match) (room
     take_grown : (t : Taken) → In t (taken_as e ∷ p.taken)
         → (mark_lt (mark_of t.now) t.was ≡ false) × (t.now.entry.score ≡ t.was.score)
     take_grown t (inl h) = subst (λ z. (mark_lt (mark_of z.now) z.was ≡ false)
-            × (z.now.entry.score ≡ z.was.score)) (sym h)
+        × (z.now.entry.score ≡ z.was.score)) (sym h)
         (at_most_itself mark_lt marks_ordered (mark_of e), refl)
     take_grown t (inr h) = p.grown t h
 
@@ -91,8 +90,10 @@ module _ (all : List Match) (P : Queued → Type 0) (reached : List Match) (room
       start_order = (λ t i s. p.start_left t e i (inr (inl (inl refl))) s, p.start_order);
       start_left = take_start;
       best_first = take_best;
-      key_order = (λ t i s. mark_of-below t.now e (p.start_left t e i (inr (inl (inl refl))) s),
-              p.key_order);
+      key_order = (
+        λ t i s. mark_of-below t.now e (p.start_left t e i (inr (inl (inl refl))) s),
+        p.key_order,
+      );
       was_order = (λ t i. p.best_first t e i (inr (inl (inl refl))), p.was_order);
       grown = take_grown;
       is_current = refl;
@@ -129,10 +130,12 @@ module _ (all : List Match) (P : Queued → Type 0) (reached : List Match) (room
 
     room_cover : (m : Match) → In m all
         → passing (λ t. covers m t.now)
-            p.taken + (passing (covers m) pending + (passing (covers m)
-                    (put_in entry_cmp x waiting) + passing (covers m) p.dropped)) ≡ 1
-    room_cover m i = let h = p.cover m i in let e =
-        passing-put (covers m) x waiting in omega (arith, h, e)
+        p.taken + (passing (covers m) pending + (passing (covers m)
+        (put_in entry_cmp x waiting) + passing (covers m) p.dropped)) ≡ 1
+    room_cover m i =
+        let h = p.cover m i in
+        let e = passing-put (covers m) x waiting in
+        omega (arith, h, e)
 
     no_member : (d : Queued) (ds : List Queued) → ds ≡ [] → In d ds → ⊥
     no_member d ds e i = subst (λ z. In d z) e i
@@ -186,17 +189,17 @@ module _ (all : List Match) (P : Queued → Type 0) (reached : List Match) (room
 
       full_cover : (m : Match) → In m all
           → passing (λ t. covers m t.now)
-              p.taken + (passing (covers m) pending + (passing (covers m)
-                      (but_last y ys) + (cond (covers m last_entry) 1 0 + passing (covers m)
-                          p.dropped))) ≡ 1
+          p.taken + (passing (covers m) pending + (passing (covers m)
+          (but_last y ys) + (cond (covers m last_entry) 1 0 + passing (covers m)
+          p.dropped))) ≡ 1
       full_cover m i =
           let h = p.cover m i in
           let e = passing-put (covers m) x waiting in
           let f : passing (covers m) (put_in entry_cmp x waiting) ≡ passing (covers m) (y ∷ ys) =
-              ap (passing (covers m)) is in
+          ap (passing (covers m)) is in
           let g : passing (covers m) (y ∷ ys)
-              ≡ passing (covers m) (but_last y ys) + cond (covers m last_entry) 1 0 =
-              passing-last (covers m) y ys in
+          ≡ passing (covers m) (but_last y ys) + cond (covers m last_entry) 1 0 =
+          passing-last (covers m) y ys in
           omega (arith, h, e, f, g)
 
       kept_before : (q d : Queued) → In q (but_last y ys) → In d p.dropped
@@ -206,7 +209,7 @@ module _ (all : List Match) (P : Queued → Type 0) (reached : List Match) (room
       kept_before q d i j b (inl k) (inl r) =
           let self : entry_lt q q ≡ true = subst (λ z. entry_lt q z ≡ true) (r ∙ sym k) b in
           absurd (not_both entry_lt entries_ordered q q self
-                  (at_most_itself entry_lt entries_ordered q))
+          (at_most_itself entry_lt entries_ordered q))
       kept_before q d i j b (inl k) (inr r) = below q last_entry d b (p.before last_entry d r j)
 
       full_before : (q d : Queued) → In q (but_last y ys) → In d (last_entry ∷ p.dropped)
@@ -215,28 +218,40 @@ module _ (all : List Match) (P : Queued → Type 0) (reached : List Match) (room
           (before_last (λ a b. entry_lt a b ≡ true) q y ys all_rising i)
       full_before q d i (inr h) =
           kept_before q d i h (before_last (λ a b. entry_lt a b ≡ true) q y ys all_rising i)
-              (in_all q (in_but_last q y ys i)) (in_all last_entry (in_last y ys))
+          (in_all q (in_but_last q y ys i)) (in_all last_entry (in_last y ys))
 
       first_at : (b : Bool) (f : Queued) → entry_lt f last_entry ≡ b → In f p.dropped
           → ((d : Queued) → In d p.dropped → entry_lt d f ≡ false)
           → IsFirst (last_entry ∷ p.dropped) (Some (cond b f last_entry))
-      first_at true f e i least = (inr i,
-              λ d j. elim j as (λ _. entry_lt d f ≡ false)
-              [ inl k ↦ subst (λ z. entry_lt z f ≡ false) (sym k)
-                  (weaken entry_lt entries_ordered f last_entry e) | inr k ↦ least d k ])
-      first_at false f e i least = (inl refl,
-              λ d j. elim j as (λ _. entry_lt d last_entry ≡ false)
-              [ inl k ↦ subst (λ z. entry_lt z last_entry ≡ false) (sym k)
-                  (at_most_itself entry_lt entries_ordered last_entry) | inr k ↦ at_most_trans
-                  entry_lt entries_ordered last_entry f d e (least d k) ])
+      first_at true f e i least = (
+        inr i,
+        λ d j. elim j as (λ _. entry_lt d f ≡ false) [
+          | inl k ↦ subst (λ z. entry_lt z f ≡ false) (sym k)
+              (weaken entry_lt entries_ordered f last_entry e)
+          | inr k ↦ least d k
+        ],
+      )
+      first_at false f e i least = (
+        inl refl,
+        λ d j. elim j as (λ _. entry_lt d last_entry ≡ false) [
+          | inl k ↦ subst (λ z. entry_lt z last_entry ≡ false) (sym k)
+              (at_most_itself entry_lt entries_ordered last_entry)
+          | inr k ↦ at_most_trans
+              entry_lt entries_ordered last_entry f d e (least d k)
+        ],
+      )
 
       full_first : (o : Option Queued) → IsFirst p.dropped o
           → IsFirst (last_entry ∷ p.dropped) (Some (first_of last_entry o))
-      full_first None h = (inl refl,
-              λ d j. elim j as (λ _. entry_lt d last_entry ≡ false)
-              [ inl k ↦ subst (λ z. entry_lt z last_entry ≡ false) (sym k)
-                  (at_most_itself entry_lt entries_ordered last_entry) | inr k ↦ absurd
-                  (no_member d p.dropped h k) ])
+      full_first None h = (
+        inl refl,
+        λ d j. elim j as (λ _. entry_lt d last_entry ≡ false) [
+          | inl k ↦ subst (λ z. entry_lt z last_entry ≡ false) (sym k)
+              (at_most_itself entry_lt entries_ordered last_entry)
+          | inr k ↦ absurd
+              (no_member d p.dropped h k)
+        ],
+      )
       full_first (Some f) h = first_at (entry_lt f last_entry) f refl h.0 h.1
 
       full_length : length (but_last y ys) ≡ length waiting
@@ -258,7 +273,10 @@ module _ (all : List Match) (P : Queued → Type 0) (reached : List Match) (room
         rising = pairs-but_last (λ a b. entry_lt a b ≡ true) y ys all_rising;
         before = full_before;
         is_first = full_first first p.is_first;
-        fits = let e = full_length in let h = p.fits in omega (arith, e, h);
+        fits =
+            let e = full_length in
+            let h = p.fits in
+            omega (arith, e, h);
         full = inr (let e = full_length in let h = p.fits in omega (arith, e, h, l));
         start_order = p.start_order;
         start_left = λ t e i h s. p.start_left t e i (full_left e h) s;
@@ -276,7 +294,7 @@ module _ (all : List Match) (P : Queued → Type 0) (reached : List Match) (room
     put_full_at : (all' : List Queued) → put_in entry_cmp x waiting ≡ all'
         → room ≤ length waiting + count → AfterPut (shed all' first)
     put_full_at [] is l = absurd (let e : length (put_in entry_cmp x waiting) ≡ 0 =
-            ap length is in let f = length-put_in x waiting in omega (arith, e, f))
+        ap length is in let f = length-put_in x waiting in omega (arith, e, f))
     put_full_at (y ∷ ys) is l = progress-put_full y ys is l
 
     put_at : (b : Bool) → nat_lt (length waiting + count) room ≡ b
@@ -286,5 +304,5 @@ module _ (all : List Match) (P : Queued → Type 0) (reached : List Match) (room
         (ltb-false (length waiting + count) room e)
 
     pub progress-put : AfterPut (put_queued (nat_lt (length waiting + count) room) x
-            (queue waiting first))
+        (queue waiting first))
     progress-put = put_at (nat_lt (length waiting + count) room) refl

@@ -29,7 +29,7 @@ use Rattle.sg_paths.proofs.RiseLemmas.{length-all_paths}
 use Rattle.fst_code.specs.Lists.{root_paths}
 use Rattle.fst_code.specs.Tails.{Tail}
 use Rattle.fst_walk.specs.Starts.{start_contexts}
-use Rattle.best_first.specs.Ends.{IsReport, IsCutShort}
+use Rattle.best_first.specs.Ends.{IsOutcome, IsCutShort}
 use Rattle.best_first.specs.Exact.{IsInOrder, IsExact}
 use Rattle.best_first.specs.Listings.{IsListing, mark_of_match}
 use Rattle.best_first.specs.Lists.{passing}
@@ -137,7 +137,7 @@ module _ (query : PlainQuery) (ds : List PlainNumbered) (marks : List Bool) (gen
 
   module _ (has_live : 0 < length live) where
     is_sound : (rows : List Rank) (cut : Option PlainCut)
-        → IsReport matches query.prefix (length starts) query.k room generation rows cut
+        → IsOutcome matches query.prefix (length starts) query.k room generation rows cut
         → IsSound query (s ∷ []) rows cut
     is_sound rows None h = h ∙ ap (take query.k) answer_is
     is_sound rows (Some cut) h = (
@@ -157,7 +157,7 @@ module _ (query : PlainQuery) (ds : List PlainNumbered) (marks : List Bool) (gen
 
     -- with the exact rule it is the report of the search
     whole : (rows : List Rank) (cut : Option PlainCut)
-        → IsReport matches query.prefix (length starts) query.k room generation rows cut
+        → IsOutcome matches query.prefix (length starts) query.k room generation rows cut
         → (length starts ≤ 1 → (order : List Match) → IsInOrder matches order
         → IsExact order query.k room cut)
         → IsSearch query s rows cut
@@ -173,7 +173,7 @@ pub is_search : (query : PlainQuery) (ds : List PlainNumbered) (marks : List Boo
     → IsListing (matches_of query ds (start_contexts (root_paths nodes) query) marks)
     (length (start_contexts (root_paths nodes) query))
     → 0 < length (live_of ds marks) → (rows : List Rank) (cut : Option PlainCut)
-    → IsReport (matches_of query ds (start_contexts (root_paths nodes) query) marks) query.prefix
+    → IsOutcome (matches_of query ds (start_contexts (root_paths nodes) query) marks) query.prefix
     (length (start_contexts (root_paths nodes) query)) query.k
     (queue_size query.k (viewed_segment generation ds marks)) generation rows cut
     → (length (start_contexts (root_paths nodes) query) ≤ 1 → (order : List Match)

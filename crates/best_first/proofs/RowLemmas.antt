@@ -1,32 +1,21 @@
 -- Which rows don't matter to the first k, and to those that precede a truncation point.
 use Rattle.std.proofs.Common.{◌≡◌, ◌≤◌, ◌<◌, ◌+◌, ◌⊎◌, inl, inr, ℕ, zero, suc, Bool, true, false}
-use Rattle.std.proofs.Common.{cond, nat_eq, not, List, [], ◌∷◌, ◌++◌, length, take, refl, sym}
-use Rattle.std.proofs.Common.{ap, ◌∙◌, subst, arith}
+use Rattle.std.proofs.Common.{cond, nat_eq, not, List, [], ◌∷◌, ◌++◌, length, take, refl, sym, ap}
+use Rattle.std.proofs.Common.{◌∙◌, subst, arith}
 use Rattle.std.specs.List.{filter, AllByRecursion}
+use Rattle.std.proofs.lemmas.Bool.{false_from_ne_true}
 use Rattle.sg_base.specs.Lists.{In}
+use Rattle.sg_base.specs.Rows.{without, put_row, ranked}
 use Rattle.sg_base.specs.declared.rank.Rank.{Rank}
-use Rattle.sg_base.proofs.Orders.{at_most_trans, weaken}
 use Rattle.sg_base.proofs.ListLemmas.{in-append, all_of}
 use Rattle.sg_base.proofs.MarkLemmas.{GoesDown}
-use Rattle.sg_base.specs.Rows.{without, put_row, ranked}
+use Rattle.sg_base.proofs.Orders.{at_most_trans, weaken}
 use Rattle.sg_base.proofs.RankingLemmas.{rank_lt, ranks_ordered, Ascending, Once}
-use Rattle.collector.proofs.RankingLemmas.{is_ranking-ranked, ranked-same, in-without}
+use Rattle.sg_answers.proofs.TakingLemmas.{filter_at_most}
 use Rattle.collector.proofs.KeptLemmas.{others_from, without-others}
-
-pub in-append-right : {X : Type 0} (e : X) (xs ys : List X) → In e ys → In e (xs ++ ys)
-in-append-right e [] ys i = i
-in-append-right e (x ∷ xs) ys i = inr (in-append-right e xs ys i)
-
-pub in-append-left : {X : Type 0} (e : X) (xs ys : List X) → In e xs → In e (xs ++ ys)
-in-append-left e [] ys i = elim i [ ]
-in-append-left e (x ∷ xs) ys (inl i) = inl i
-in-append-left e (x ∷ xs) ys (inr i) = inr (in-append-left e xs ys i)
-
-pub in-take : {X : Type 0} (e : X) (k : ℕ) (xs : List X) → In e (take k xs) → In e xs
-in-take e zero xs i = elim i [ ]
-in-take e (suc k) [] i = i
-in-take e (suc k) (x ∷ xs) (inl i) = inl i
-in-take e (suc k) (x ∷ xs) (inr i) = inr (in-take e k xs i)
+use Rattle.collector.proofs.ListLemmas.{in-take}
+use Rattle.collector.proofs.RankingLemmas.{is_ranking-ranked, ranked-same, in-without}
+use Rattle.best_first.proofs.MemberLemmas.{in-left, in-right}
 
 -- a row that is there already changes nothing
 known : (u : Rank) (xs : List Rank) → In u xs → ranked (u ∷ xs) ≡ ranked xs
@@ -39,7 +28,7 @@ pub ranked-within : (xs ys : List Rank) → ((r : Rank) → In r ys → In r xs)
     → ranked (xs ++ ys) ≡ ranked xs
 ranked-within xs ys f =
     ranked-same (xs ++ ys) xs (λ r j. elim (in-append r xs ys j) as (λ _. In r xs)
-            [ inl k ↦ k | inr k ↦ f r k ]) (λ r j. in-append-left r xs ys j)
+    [ inl k ↦ k | inr k ↦ f r k ]) (λ r j. in-left r xs ys j)
 
 long_enough : {X : Type 0} (k : ℕ) (xs ys : List X) → take k xs ≡ take k ys → k ≤ length ys
     → k ≤ length xs
@@ -77,29 +66,28 @@ first-late k s [] h f = refl
 first-late k s (u ∷ us) h f =
     let more = first-late k s us h (λ v i. f v (inr i)) in
     elim (f u (inl refl)) as (λ _. take k (ranked (u ∷ (us ++ s))) ≡ take k (ranked s)) [
-      inl i ↦ ap (take k) (known u (us ++ s) (in-append-right u us s i)) ∙ more
+      | inl i ↦ ap (take k) (known u (us ++ s) (in-right u us s i)) ∙ more
       | inr late ↦
-        put_row-late k u (ranked (us ++ s)) (long_enough k (ranked (us ++ s)) (ranked s) more h)
-        (subst (AllByRecursion (λ x. rank_lt x u ≡ true)) (sym more)
-                (all_of (λ x. rank_lt x u ≡ true) (take k (ranked s)) late))
-        ∙ more
+          put_row-late k u (ranked (us ++ s)) (long_enough k (ranked (us ++ s)) (ranked s) more h)
+          (subst (AllByRecursion (λ x. rank_lt x u ≡ true)) (sym more)
+          (all_of (λ x. rank_lt x u ≡ true) (take k (ranked s)) late))
+          ∙ more
     ]
 
 -- what precedes
 
-no_true : (b : Bool) → (b ≡ true → ⊥) → b ≡ false
-no_true true f = absurd (f refl)
-no_true false f = refl
-
 fails : (pre : Rank → Bool) → GoesDown pre → (x y : Rank) → rank_lt y x ≡ false → pre x ≡ false
     → pre y ≡ false
-fails pre down x y h n = no_true (pre y) (λ e. let no : true ≡ false = sym (down x y h e) ∙ n in cc)
+fails pre down x y h n =
+    false_from_ne_true (pre y) (λ e.
+    let never : true ≡ false = sym (down x y h e) ∙ n in cc)
 
 filter-none : (pre : Rank → Bool) (xs : List Rank) → ((e : Rank) → In e xs → pre e ≡ false)
     → filter pre xs ≡ []
 filter-none pre [] f = refl
-filter-none pre (x ∷ xs) f = let h =
-    f x (inl refl) in rw h (filter-none pre xs (λ e i. f e (inr i)))
+filter-none pre (x ∷ xs) f =
+    let h = f x (inl refl) in
+    rw h (filter-none pre xs (λ e i. f e (inr i)))
 
 behind_all : (r x e : Rank) (xs : List Rank) → Ascending (x ∷ xs) → rank_lt x r ≡ false
     → In e (x ∷ xs) → rank_lt e r ≡ false
@@ -116,17 +104,19 @@ put_fails_at : (pre : Rank → Bool) → GoesDown pre → (a b : Bool) (r x : Ra
     → rank_lt x r ≡ a → pre r ≡ false → Ascending (x ∷ xs)
     → filter pre (put_row r xs) ≡ filter pre xs
     → filter pre (cond a (cond b (x ∷ xs) (x ∷ put_row r xs)) (r ∷ without r.seq (x ∷ xs)))
-        ≡ filter pre (x ∷ xs)
+    ≡ filter pre (x ∷ xs)
 put_fails_at pre down true true r x xs is n up more = refl
 put_fails_at pre down true false r x xs is n up more =
     same_kept (pre x) x (filter pre (put_row r xs)) (filter pre xs) more
 put_fails_at pre down false b r x xs is n up more =
     let none : (e : Rank) → In e (x ∷ xs) → pre e ≡ false =
-        λ e i. fails pre down r e (behind_all r x e xs up is i) n in
+    λ e i. fails pre down r e (behind_all r x e xs up is i) n in
     filter-none pre (r ∷ without r.seq (x ∷ xs))
-        (λ e i. elim i as (λ _. pre e ≡ false)
-            [ inl k ↦ subst (λ z. pre z ≡ false) (sym k) n | inr k ↦ none e
-                (in-without e r.seq (x ∷ xs) k).0 ])
+    (λ e i. elim i as (λ _. pre e ≡ false) [
+      | inl k ↦ subst (λ z. pre z ≡ false) (sym k) n
+      | inr k ↦ none e
+          (in-without e r.seq (x ∷ xs) k).0
+    ])
     ∙ sym (filter-none pre (x ∷ xs) none)
 
 alone : (pre : Rank → Bool) (r : Rank) → pre r ≡ false → filter pre (r ∷ []) ≡ []
@@ -147,7 +137,7 @@ preceding-more pre down s [] f = refl
 preceding-more pre down s (u ∷ us) f =
     let more = preceding-more pre down s us (λ v i. f v (inr i)) in
     elim (f u (inl refl)) as (λ _. filter pre (ranked (u ∷ (us ++ s))) ≡ filter pre (ranked s)) [
-      inl i ↦ ap (filter pre) (known u (us ++ s) (in-append-right u us s i)) ∙ more
+      | inl i ↦ ap (filter pre) (known u (us ++ s) (in-right u us s i)) ∙ more
       | inr n ↦ put_fails pre down u (ranked (us ++ s)) n (is_ranking-ranked (us ++ s)).ascending
           ∙ more
     ]
@@ -168,26 +158,16 @@ filter-take pre down (suc k) (x ∷ xs) up (inr h) =
     (filter-take pre down k xs up.1 (inr (omega (arith, h))))
 filter-take pre down (suc k) (x ∷ xs) up (inl h) =
     elim h.1 as (λ _. filter pre (take (suc k) (x ∷ xs)) ≡ filter pre (x ∷ xs)) [
-      inl i ↦
-        let n : pre x ≡ false = subst (λ z. pre z ≡ false) i h.2 in
-        let none : (e : Rank) → In e xs → pre e ≡ false =
-            λ e j. fails pre down x e (weaken rank_lt ranks_ordered x e (up.0 e j)) n in
-        same_kept (pre x) x (filter pre (take k xs)) (filter pre xs)
-            (filter-none pre (take k xs) (λ e j. none e (in-take e k xs j))
-                ∙ sym (filter-none pre xs none))
+      | inl i ↦
+          let n : pre x ≡ false = subst (λ z. pre z ≡ false) i h.2 in
+          let none : (e : Rank) → In e xs → pre e ≡ false =
+          λ e j. fails pre down x e (weaken rank_lt ranks_ordered x e (up.0 e j)) n in
+          same_kept (pre x) x (filter pre (take k xs)) (filter pre xs)
+          (filter-none pre (take k xs) (λ e j. none e (in-take e k xs j))
+          ∙ sym (filter-none pre xs none))
       | inr i ↦ same_kept (pre x) x (filter pre (take k xs)) (filter pre xs)
           (filter-take pre down k xs up.1 (inl (h.0, i, h.2)))
     ]
-
-length-filter_at : (b : Bool) (x : Rank) (pre : Rank → Bool) (xs : List Rank)
-    → length (filter pre xs) ≤ length xs
-    → length (cond b (x ∷ filter pre xs) (filter pre xs)) ≤ length (x ∷ xs)
-length-filter_at true x pre xs h = omega (arith, h)
-length-filter_at false x pre xs h = omega (arith, h)
-
-pub length-filter : (pre : Rank → Bool) (xs : List Rank) → length (filter pre xs) ≤ length xs
-length-filter pre [] = omega arith
-length-filter pre (x ∷ xs) = length-filter_at (pre x) x pre xs (length-filter pre xs)
 
 fewer_at : (b : Bool) (x : Rank) (pre : Rank → Bool) (xs : List Rank) → pre x ≡ b
     → ((b ≡ false) ⊎ (length (filter pre xs) < length xs)) → length (filter pre xs) ≤ length xs
@@ -200,17 +180,19 @@ pub fewer : (pre : Rank → Bool) (w : Rank) (xs : List Rank) → In w xs → pr
     → length (filter pre xs) < length xs
 fewer pre w [] i n = elim i [ ]
 fewer pre w (x ∷ xs) (inl i) n =
-    fewer_at (pre x) x pre xs refl (inl (subst (λ z. pre z ≡ false) i n)) (length-filter pre xs)
+    fewer_at (pre x) x pre xs refl (inl (subst (λ z. pre z ≡ false) i n)) (filter_at_most pre xs)
 fewer pre w (x ∷ xs) (inr i) n =
-    fewer_at (pre x) x pre xs refl (inr (fewer pre w xs i n)) (length-filter pre xs)
+    fewer_at (pre x) x pre xs refl (inr (fewer pre w xs i n)) (filter_at_most pre xs)
 
 -- more rows give no fewer
 
 one_less_at : (b : Bool) (x : Rank) (n : ℕ) (xs : List Rank) → nat_eq x.seq n ≡ b
     → ((y : Rank) → In y xs → nat_eq x.seq y.seq ≡ false) → length xs ≤ length (without n xs) + 1
     → length (x ∷ xs) ≤ length (cond (not b) (x ∷ without n xs) (without n xs)) + 1
-one_less_at true x n xs is f h = let e : length (without n xs) ≡ length xs =
-    ap length (without-others n xs (others_from x n xs is f)) in omega (arith, e)
+one_less_at true x n xs is f h =
+    let e : length (without n xs) ≡ length xs =
+    ap length (without-others n xs (others_from x n xs is f)) in
+    omega (arith, e)
 one_less_at false x n xs is f h = omega (arith, h)
 
 one_less : (n : ℕ) (xs : List Rank) → Once xs → length xs ≤ length (without n xs) + 1
@@ -220,7 +202,7 @@ one_less n (x ∷ xs) o = one_less_at (nat_eq x.seq n) x n xs refl o.0 (one_less
 no_fewer_at : (a b : Bool) (r x : Rank) (xs : List Rank) → Once (x ∷ xs)
     → length xs ≤ length (put_row r xs)
     → length (x ∷ xs) ≤ length (cond a (cond b (x ∷ xs) (x ∷ put_row r xs))
-            (r ∷ without r.seq (x ∷ xs)))
+    (r ∷ without r.seq (x ∷ xs)))
 no_fewer_at true true r x xs o h = omega arith
 no_fewer_at true false r x xs o h = omega (arith, h)
 no_fewer_at false b r x xs o h = let k = one_less r.seq (x ∷ xs) o in omega (arith, k)

@@ -1,7 +1,6 @@
 -- Documents, the transducer of their paths and a query are what the loops of a search know.
-use Rattle.std.proofs.Common.{Bool}
-use Rattle.std.proofs.Common.{◌≡◌, ◌≤◌, ◌<◌, ◌+◌, inl, inr, ℕ, zero, suc, true, Some, List, [], ◌∷◌}
-use Rattle.std.proofs.Common.{◌++◌, length, get_or, refl, sym, ap, ◌∙◌, subst, arith}
+use Rattle.std.proofs.Common.{Bool, ◌≡◌, ◌≤◌, ◌<◌, inl, inr, ℕ, zero, suc, true, Some, List, []}
+use Rattle.std.proofs.Common.{◌∷◌, length, get_or, refl, sym, ap, ◌∙◌, subst, arith}
 use Rattle.std.specs.Prelude.{IfSome}
 use Rattle.sg_base.specs.ByteStrings.{lacks}
 use Rattle.sg_base.specs.Lists.{In}
@@ -15,12 +14,12 @@ use Rattle.fst_code.specs.Lists.{root_paths}
 use Rattle.fst_code.specs.Tails.{tails}
 use Rattle.fst_walk.specs.Starts.{start_contexts}
 use Rattle.fst_walk.proofs.PlaceLemmas.{place_ordinal}
-use Rattle.path_desk.specs.declared.entry.Entry.{Entry}
 use Rattle.path_desk.specs.Entries.{Queued}
+use Rattle.path_desk.specs.declared.entry.Entry.{Entry}
 use Rattle.collector.proofs.ListLemmas.{map-length}
 use Rattle.best_first.specs.Matches.{Match, Best, Ends}
 use Rattle.best_first.specs.Met.{IsMet}
-use Rattle.best_first.specs.Parts.{AreDocuments, IsMapping, HasSuggestion}
+use Rattle.best_first.specs.Parts.{AreDocuments, IsMapping}
 use Rattle.best_first.specs.PathMatches.{Setting, tail_of, setting_of, match_at, matches_of}
 use Rattle.best_first.specs.Roots.{AreRoots}
 use Rattle.best_first.specs.Searches.{Searches}

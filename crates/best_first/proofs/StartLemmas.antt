@@ -1,21 +1,12 @@
 -- Contexts by their numbers.
-use Rattle.std.proofs.Common.{◌≡◌, ◌≤◌, ◌<◌, ◌+◌, ◌-◌, ℕ, zero, suc, Bool, true, false, not, ◌&&◌}
-use Rattle.std.proofs.Common.{cond, nat_eq, eqb, eq-eqb, ◌⊎◌, inl, inr, filter, map, List, [], ◌∷◌}
-use Rattle.std.proofs.Common.{◌++◌, length, get_or, append_assoc, refl, sym, ap, ◌∙◌, subst, arith}
-use Rattle.std.specs.Prelude.{bytes_eq}
-use Rattle.std.specs.List.{AllByRecursion}
+use Rattle.std.proofs.Common.{◌≡◌, ◌<◌, ℕ, zero, suc, Bool, true, false, cond, inl, inr, List, []}
+use Rattle.std.proofs.Common.{◌∷◌, length, refl, sym, ap, ◌∙◌, arith}
 use Rattle.std.specs.Cmp.Lexicographic.{bytes_decides}
-use Rattle.std.specs.Int.{w32, to_be_bytes}
+use Rattle.std.specs.Prelude.{bytes_eq}
 use Rattle.sg_base.specs.Lists.{In, Pairs}
-use Rattle.sg_base.specs.ByteStrings.{lacks, begins}
-use Rattle.best_first.specs.Lists.{passing}
-use Rattle.sg_paths.specs.AllPaths.{FullPath, path_bytes}
-use Rattle.sg_paths.proofs.ByteLemmas.{lacks_parts}
-use Rattle.path_desk.specs.Entries.{key_part}
-use Rattle.best_first.specs.Met.{IsAt}
-use Rattle.best_first.specs.PathMatches.{place_of, bytes_of}
-use Rattle.std.proofs.lemmas.Bool.{and_parts}
 use Rattle.fst_walk.proofs.BoolLemmas.{clash}
+use Rattle.best_first.specs.Met.{IsAt}
+use Rattle.best_first.specs.PathMatches.{place_of}
 
 -- contexts by number
 pub at_one : (xs : List (List ℕ)) (n : ℕ) (c d : List ℕ) → IsAt xs n c → IsAt xs n d → c ≡ d
@@ -51,7 +42,7 @@ number_of (x ∷ xs) zero c d i =
     ap (λ b. cond b 0 (suc (place_of c xs))) ((bytes_decides c x).1 (sym i))
 number_of (x ∷ xs) (suc n) c d i =
     number_by c x n (place_of c xs) (bytes_eq c x) refl (d.0 c (at_in xs n c i))
-        (number_of xs n c d.1 i)
+    (number_of xs n c d.1 i)
 
 pub at_few : (xs : List (List ℕ)) (n : ℕ) (c : List ℕ) → IsAt xs n c → n < length xs
 at_few [] n c i = elim i [ ]

@@ -71,12 +71,6 @@ pub length-total : {X : Type 0} (p : X → Bool) (xs : List X)
 length-total p [] = refl
 length-total p (x ∷ xs) = length_at x (filter p xs) _ (p x) (length-total p xs)
 
--- two functions that agree
-pub total-same : {X : Type 0} (f g : X → ℕ) (xs : List X) → ((x : X) → f x ≡ g x)
-    → total f xs ≡ total g xs
-total-same f g [] h = refl
-total-same f g (x ∷ xs) h = ap (λ n. n + total f xs) (h x) ∙ ap (λ n. g x + n) (total-same f g xs h)
-
 -- the same sums by the words of another list's lemmas
 pub total_of-total : {X : Type 0} (R : X → X → Ordering) (t : IsTotalOrder R)
     (same : (x y : X) → R x y ≡ Equal → x ≡ y) (f : X → ℕ) (xs : List X)

@@ -1,21 +1,13 @@
 -- Texts with an end, and a path's bytes.
-use Rattle.std.proofs.Common.{◌≡◌, ◌≤◌, ◌<◌, ◌+◌, ◌-◌, ℕ, zero, suc, Bool, true, false, not, ◌&&◌}
-use Rattle.std.proofs.Common.{cond, nat_eq, eqb, eq-eqb, ◌⊎◌, inl, inr, filter, map, List, [], ◌∷◌}
-use Rattle.std.proofs.Common.{◌++◌, length, get_or, append_assoc, refl, sym, ap, ◌∙◌, subst, arith}
-use Rattle.std.specs.Prelude.{bytes_eq}
-use Rattle.std.specs.List.{AllByRecursion}
-use Rattle.std.specs.Cmp.Lexicographic.{bytes_decides}
+use Rattle.std.proofs.Common.{◌≡◌, ℕ, Bool, true, false, cond, eqb, List, [], ◌∷◌, ◌++◌}
+use Rattle.std.proofs.Common.{append_assoc, refl, sym, ap, ◌∙◌, arith}
 use Rattle.std.specs.Int.{w32, to_be_bytes}
-use Rattle.sg_base.specs.Lists.{In, Pairs}
+use Rattle.std.proofs.lemmas.Bool.{and_parts}
 use Rattle.sg_base.specs.ByteStrings.{lacks, begins}
-use Rattle.best_first.specs.Lists.{passing}
 use Rattle.sg_paths.specs.AllPaths.{FullPath, path_bytes}
 use Rattle.sg_paths.proofs.ByteLemmas.{lacks_parts}
 use Rattle.path_desk.specs.Entries.{key_part}
-use Rattle.best_first.specs.Met.{IsAt}
-use Rattle.best_first.specs.PathMatches.{place_of, bytes_of}
-use Rattle.std.proofs.lemmas.Bool.{and_parts}
-use Rattle.fst_walk.proofs.BoolLemmas.{clash}
+use Rattle.best_first.specs.PathMatches.{bytes_of}
 
 -- texts with an end that stands in neither
 pub cut_same : (t : ℕ) (c d x y : List ℕ) → lacks t c ≡ true → lacks t d ≡ true
@@ -42,9 +34,9 @@ begins_key t [] k n l h = refl
 begins_key t (a ∷ p) [] n l h =
     let r = and_parts (eqb a t) (begins p n) h in
     let e : a ≡ t = same a t r.0 in absurd ((lacks_parts t a p l).0 e)
-    where
-      same : (x y : ℕ) → eqb x y ≡ true → x ≡ y
-      same x y e = grind arith
+  where
+    same : (x y : ℕ) → eqb x y ≡ true → x ≡ y
+    same x y e = grind arith
 begins_key t (a ∷ p) (b ∷ k) n l h =
     let r = and_parts (eqb a b) (begins p (k ++ t ∷ n)) h in
     let i = begins_key t p k n (lacks_parts t a p l).1 r.1 in rw (r.0, i) refl
@@ -60,10 +52,11 @@ pub key_is : (k n : List ℕ) → lacks 0 k ≡ true → key_part (k ++ 0 ∷ n)
 key_is [] n l = refl
 key_is (b ∷ k) n l =
     let r = lacks_parts 0 b k l in at (eqb b 0) refl r.0 (key_is k n r.1)
-    where
-      same : (x y : ℕ) → eqb x y ≡ true → x ≡ y
-      same x y e = grind arith
-      at : (c : Bool) → eqb b 0 ≡ c → (b ≡ 0 → ⊥) → key_part (k ++ 0 ∷ n) ≡ k
-          → cond c [] (b ∷ key_part (k ++ 0 ∷ n)) ≡ b ∷ k
-      at true e f h = absurd (f (same b 0 e))
-      at false e f h = ap (λ z. b ∷ z) h
+  where
+    same : (x y : ℕ) → eqb x y ≡ true → x ≡ y
+    same x y e = grind arith
+
+    at : (c : Bool) → eqb b 0 ≡ c → (b ≡ 0 → ⊥) → key_part (k ++ 0 ∷ n) ≡ k
+        → cond c [] (b ∷ key_part (k ++ 0 ∷ n)) ≡ b ∷ k
+    at true e f h = absurd (f (same b 0 e))
+    at false e f h = ap (λ z. b ∷ z) h

@@ -1,5 +1,5 @@
 -- What a search answers over its matching paths is the report of a search over documents.
-use Rattle.std.proofs.Common.{◌≡◌, ◌≤◌, ◌<◌, ℕ, Bool, true, List, length, Option, refl, sym, subst}
+use Rattle.std.proofs.Common.{◌≡◌, ◌<◌, ℕ, Bool, true, List, length, Option, subst}
 use Rattle.sg_base.specs.ByteStrings.{lacks}
 use Rattle.sg_base.specs.Cuts.{PlainCut}
 use Rattle.sg_base.specs.declared.node.Edge.{Edge}

@@ -1,18 +1,18 @@
 -- When a search is done, and what it answers, over its matching paths. No public clause cites it.
 -- Source: this project's own.
+use Rattle.std.specs.Ordering.{is_lt}
 use Rattle.std.specs.Prelude.{ℕ, ◌≡◌, ◌<◌, ◌≤◌, ◌+◌, ◌-◌, Bool, true, false, not, ◌||◌, nat_lt}
 use Rattle.std.specs.Prelude.{nat_le, if◌then◌else◌, List, length, take, filter, Option, Some, None}
 use Rattle.std.specs.Prelude.{slice_get}
-use Rattle.std.specs.Ordering.{is_lt}
-use Rattle.sg_base.specs.Lists.{In}
-use Rattle.sg_base.specs.Cuts.{PlainCut, mark_cmp, row_mark, cut_mark, precedes}
-use Rattle.sg_base.specs.declared.rank.Rank.{Rank}
 use Rattle.sg_base.specs.ByteStrings.{begins}
+use Rattle.sg_base.specs.Cuts.{PlainCut, mark_cmp, row_mark, cut_mark, precedes}
+use Rattle.sg_base.specs.Lists.{In}
 use Rattle.sg_base.specs.Rows.{ranked}
-use Rattle.best_first.specs.Lists.{passing}
+use Rattle.sg_base.specs.declared.rank.Rank.{Rank}
 use Rattle.path_desk.specs.Desks.{PlainDesk, is_settled}
-use Rattle.best_first.specs.Matches.{Match, ranks_of}
 use Rattle.best_first.specs.Listings.{mark_of_match}
+use Rattle.best_first.specs.Lists.{passing}
+use Rattle.best_first.specs.Matches.{Match, ranks_of}
 
 -- the k-th row
 abbrev pub last_row : ℕ → List Rank → Option Rank
@@ -37,8 +37,8 @@ pub record IsCutShort (all : List Match) (prefix : List ℕ) (starts k room gene
   pub up_to : room + 1
       ≤ passing (λ m. not (is_lt (mark_cmp (cut_mark cut) (mark_of_match m)))) all + starts
 
--- a report of a search: without a truncation point it has the first k rows of all
-abbrev pub IsReport : List Match → List ℕ → ℕ → ℕ → ℕ → ℕ → List Rank → Option PlainCut → Type 0
-IsReport all prefix starts k room generation rows None = rows ≡ take k (ranked (ranks_of all))
-IsReport all prefix starts k room generation rows (Some cut) =
+-- the outcome of a search: without a truncation point it has the first k rows of all
+abbrev pub IsOutcome : List Match → List ℕ → ℕ → ℕ → ℕ → ℕ → List Rank → Option PlainCut → Type 0
+IsOutcome all prefix starts k room generation rows None = rows ≡ take k (ranked (ranks_of all))
+IsOutcome all prefix starts k room generation rows (Some cut) =
     IsCutShort all prefix starts k room generation rows cut

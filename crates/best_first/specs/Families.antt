@@ -1,6 +1,6 @@
 -- The entries behind the arcs of a node. No public clause cites it. Source: this project's own.
-use Rattle.std.specs.Prelude.{ℕ, ◌≡◌, ◌≤◌, ◌+◌, true, cond, List, [], ◌∷◌, ◌++◌}
 use Rattle.std.specs.Ordering.{is_lt}
+use Rattle.std.specs.Prelude.{ℕ, ◌≡◌, ◌≤◌, ◌+◌, true, cond, List, [], ◌∷◌, ◌++◌}
 use Rattle.sg_base.specs.Lists.{In}
 use Rattle.path_desk.specs.Entries.{Queued, entry_cmp}
 use Rattle.best_first.specs.Lists.{passing}

@@ -3,12 +3,12 @@ pub mod Matches
 pub mod Families
 pub mod Listings
 pub mod Progress
+pub mod Parts
 pub mod Steps
 pub mod Segments
 pub mod Ends
 pub mod Exact
 pub mod PathMatches
-pub mod Parts
 pub mod Met
 pub mod Roots
 pub mod Searches

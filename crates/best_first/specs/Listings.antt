@@ -1,8 +1,8 @@
 -- What the search knows of the list of all matching paths. No public clause cites it. Source: this
 -- project's own.
-use Rattle.std.specs.Prelude.{ℕ, ◌≡◌, ◌<◌, true, List}
-use Rattle.std.specs.Ordering.{nat_cmp, ordering_then, is_lt}
 use Rattle.std.specs.Cmp.Lexicographic.{slice_cmp}
+use Rattle.std.specs.Ordering.{nat_cmp, ordering_then, is_lt}
+use Rattle.std.specs.Prelude.{ℕ, ◌≡◌, ◌<◌, true, List}
 use Rattle.sg_base.specs.Cuts.{Mark, mark}
 use Rattle.sg_base.specs.Lists.{In}
 use Rattle.sg_base.specs.Ranking.{rank_cmp}

@@ -1,8 +1,8 @@
 -- The matching paths of a segment, and the entries that lie over them. No public clause cites it.
 -- Source: this project's own.
 use Rattle.std.specs.Prelude.{ℕ, ◌≡◌, ◌≤◌, Bool, true, ◌&&◌, nat_eq, List, map, filter}
-use Rattle.sg_base.specs.Lists.{In}
 use Rattle.sg_base.specs.ByteStrings.{begins}
+use Rattle.sg_base.specs.Lists.{In}
 use Rattle.sg_base.specs.declared.rank.Rank.{Rank}
 use Rattle.path_desk.specs.Entries.{Queued}
 

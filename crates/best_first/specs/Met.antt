@@ -1,14 +1,14 @@
 -- What it means that an entry stands over a node of a segment's transducer. No public clause cites
 -- it. Source: this project's own.
-use Rattle.std.specs.Prelude.{ℕ, zero, suc, ◌≡◌, ◌<◌, ◌+◌, ◌-◌, ◌*◌, true, Some, List, []}
-use Rattle.std.specs.Prelude.{◌∷◌, ◌++◌, length}
+use Rattle.std.specs.Prelude.{ℕ, zero, suc, ◌≡◌, ◌<◌, ◌+◌, ◌-◌, ◌*◌, true, Some, List, [], ◌∷◌}
+use Rattle.std.specs.Prelude.{◌++◌, length}
 use Rattle.sg_base.specs.ByteStrings.{begins}
 use Rattle.sg_base.specs.declared.limits.TheConstants.{MOST_WEIGHT}
 use Rattle.sg_base.specs.declared.node.Edge.{Edge}
 use Rattle.sg_base.specs.declared.reserved.TheConstants.{CONTEXT_END}
 use Rattle.sg_context.specs.Boosts.{boost_of}
-use Rattle.fst_code.specs.Tails.{tails}
 use Rattle.fst_code.specs.Lists.{root_paths}
+use Rattle.fst_code.specs.Tails.{tails}
 use Rattle.fst_walk.specs.Spots.{IsPlace}
 use Rattle.path_desk.specs.Entries.{Queued}
 use Rattle.best_first.specs.PathMatches.{Setting}

@@ -1,27 +1,18 @@
 -- The matching paths of documents as a search meets them. No public clause cites it. Source:
 -- Lucene's suggest.document, whose contexts lead the key; the bytes are this project's own.
-use Rattle.std.specs.Prelude.{ℕ, ◌-◌, ◌*◌, suc, Bool, false, ◌&&◌, if◌then◌else◌, is_some, bytes_eq}
-use Rattle.std.specs.Prelude.{Option, Some, None, map, filter, get_or, List, [], ◌∷◌, ◌++◌}
 use Rattle.std.specs.Int.{w32, to_be_bytes}
+use Rattle.std.specs.Prelude.{ℕ, ◌*◌, suc, Bool, false, ◌&&◌, if◌then◌else◌, is_some, bytes_eq}
+use Rattle.std.specs.Prelude.{Option, Some, None, map, filter, get_or, List, [], ◌∷◌, ◌++◌}
 use Rattle.sg_base.specs.ByteStrings.{begins}
-use Rattle.sg_base.specs.declared.limits.TheConstants.{MOST_WEIGHT}
 use Rattle.sg_base.specs.declared.rank.Rank.{Rank}
 use Rattle.sg_base.specs.declared.reserved.TheConstants.{KEY_END}
 use Rattle.sg_context.specs.Boosts.{boost_of}
 use Rattle.sg_context.specs.Queries.{PlainQuery}
-use Rattle.sg_paths.specs.AllPaths.{Entry, FullPath, path_bytes, all_paths}
+use Rattle.sg_paths.specs.AllPaths.{Entry, FullPath, all_paths}
 use Rattle.sg_paths.specs.Operations.{PlainNumbered}
-use Rattle.fst_code.specs.Tails.{Tail}
 use Rattle.best_first.specs.Matches.{Match}
+pub use Rattle.best_first.specs.Parts.{tail_of, path_tails, no_document, seq_at}
 pub use Rattle.sg_answers.specs.Reports.{live_of}
-
--- a path with its cost, as a transducer maps it
-abbrev pub tail_of : FullPath → Tail
-tail_of p = (path_bytes p, MOST_WEIGHT - p.entry.weight)
-
--- paths with their costs
-abbrev pub path_tails : List FullPath → List Tail
-path_tails ps = map tail_of ps
 
 -- a query, the contexts of its starts, and of each document by its place the number, and whether
 -- it is live
@@ -79,14 +70,6 @@ no_path =
 -- the path with an ordinal, as a search meets it
 abbrev pub match_at : Setting → List FullPath → ℕ → Match
 match_at s ps ordinal = match_of s (get_or ps ordinal no_path)
-
--- the document behind the last
-abbrev pub no_document : PlainNumbered
-no_document = record { seq = 0; document = record { id = []; suggestions = [] } }
-
--- the number of the document at a place
-abbrev pub seq_at : List PlainNumbered → ℕ → ℕ
-seq_at ds i = (get_or ds i no_document).seq
 
 -- whether the document at a place is live
 abbrev pub live_at : List Bool → ℕ → Bool

@@ -6,8 +6,8 @@ use Rattle.sg_base.specs.declared.node.Edge.{Edge}
 use Rattle.sg_base.specs.declared.reserved.TheConstants.{CONTEXT_END}
 use Rattle.sg_context.specs.Boosts.{boost_of}
 use Rattle.sg_context.specs.Queries.{PlainQuery}
-use Rattle.fst_code.specs.Tails.{tails}
 use Rattle.fst_code.specs.Lists.{root_paths}
+use Rattle.fst_code.specs.Tails.{tails}
 use Rattle.fst_walk.specs.Spots.{IsPlace}
 use Rattle.fst_walk.specs.StartsLeft.{StartsLeft}
 use Rattle.fst_walk.specs.declared.starts.Start.{Start}

@@ -2,7 +2,7 @@
 -- own.
 use Rattle.std.specs.Prelude.{ℕ, ◌≡◌, ◌<◌, List, length, get_or}
 use Rattle.sg_base.specs.declared.node.Edge.{Edge}
-use Rattle.sg_paths.specs.AllPaths.{Entry, FullPath, all_paths}
+use Rattle.sg_paths.specs.AllPaths.{FullPath, all_paths}
 use Rattle.sg_paths.specs.Operations.{PlainNumbered}
 use Rattle.path_desk.specs.Entries.{Queued}
 use Rattle.best_first.specs.Met.{IsMet}
@@ -20,8 +20,8 @@ pub record Searches (s : Setting) (nodes : List (List Edge)) (ds : List PlainNum
       → p.entry.ordinal < length (all_paths ds)
   pub suggestion : (i : ℕ) (none : FullPath) → i < length (all_paths ds)
       → HasSuggestion ds (get_or (all_paths ds) i none).entry.doc
-          (get_or (all_paths ds) i none).entry.place
+      (get_or (all_paths ds) i none).entry.place
   pub key : (i : ℕ) (none : FullPath) → i < length (all_paths ds)
       → key_at ds (get_or (all_paths ds) i none).entry.doc
-          (get_or (all_paths ds) i none).entry.place
+      (get_or (all_paths ds) i none).entry.place
       ≡ (get_or (all_paths ds) i none).entry.key

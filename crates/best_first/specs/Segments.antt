@@ -7,12 +7,12 @@ use Rattle.sg_base.specs.Rows.{ranked}
 use Rattle.sg_base.specs.declared.node.Edge.{Edge}
 use Rattle.sg_base.specs.declared.rank.Rank.{Rank}
 use Rattle.sg_base.specs.declared.reserved.TheConstants.{KEY_END}
-use Rattle.path_desk.specs.declared.entry.Entry.{Entry}
-use Rattle.path_desk.specs.Entries.{Queued, queued}
 use Rattle.path_desk.specs.Desks.{PlainDesk, taken_room, path_of}
+use Rattle.path_desk.specs.Entries.{Queued, queued}
+use Rattle.path_desk.specs.declared.entry.Entry.{Entry}
+use Rattle.best_first.specs.Listings.{IsListing}
 use Rattle.best_first.specs.Lists.{passing}
 use Rattle.best_first.specs.Matches.{Match, Best, covers, ranks_of}
-use Rattle.best_first.specs.Listings.{IsListing}
 use Rattle.best_first.specs.Progress.{Progress}
 use Rattle.best_first.specs.Steps.{Knows}
 

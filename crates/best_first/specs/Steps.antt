@@ -1,16 +1,15 @@
 -- How entries go on by the arcs of a segment's nodes. No public clause cites it. Source: the best
 -- first search of Lucene's TopNSearcher; over min-plus, where an arc of cost 0 keeps the score.
 use Rattle.std.specs.Prelude.{ℕ, ◌≡◌, ◌<◌, ◌≤◌, ◌+◌, ◌-◌, ◌*◌, ◌^◌, List, [], ◌∷◌, ◌++◌, map}
-use Rattle.std.specs.Prelude.{length, get_or, max}
+use Rattle.std.specs.Prelude.{length, get_or}
 use Rattle.sg_base.specs.Lists.{In}
 use Rattle.sg_base.specs.declared.node.Edge.{Edge}
-use Rattle.fst_code.specs.Lists.{root_paths}
-use Rattle.fst_code.specs.Tails.{Tail}
-use Rattle.path_desk.specs.declared.entry.Entry.{Entry}
-use Rattle.path_desk.specs.Entries.{Queued, queued}
 use Rattle.path_desk.specs.Desks.{PlainDesk, put_entry}
-use Rattle.best_first.specs.Matches.{Match, Ends}
+use Rattle.path_desk.specs.Entries.{Queued, queued}
+use Rattle.path_desk.specs.declared.entry.Entry.{Entry}
 use Rattle.best_first.specs.Families.{IsFamily}
+use Rattle.best_first.specs.Matches.{Match, Ends}
+pub use Rattle.best_first.specs.Parts.{most_bytes, most_path_bytes}
 
 -- the entry behind an arc of an entry's node
 abbrev pub child_entry : Entry → Edge → Entry
@@ -51,15 +50,6 @@ pub record IsFree (edges us vs : List Edge) (a : Edge) : Type 0 where
 -- there is one
 abbrev pub HasFreeArc : List Edge → Type 0
 HasFreeArc edges = (us : List Edge) × (vs : List Edge) × (a : Edge) × IsFree edges us vs a
-
--- the most bytes of a path
-abbrev pub most_bytes : List Tail → ℕ
-most_bytes [] = 0
-most_bytes (t ∷ ts) = max (length t.0) (most_bytes ts)
-
--- the same of the paths that nodes map
-abbrev pub most_path_bytes : List (List Edge) → ℕ
-most_path_bytes nodes = most_bytes (root_paths nodes)
 
 -- The entries of which P holds go on by the arcs of the nodes, one of which costs nothing, and end
 -- at node 0: there each is the matching path with its ordinal.

@@ -70,6 +70,7 @@ fn report_of<S: SegParts<L>, L>(parts: &S, piece: u32, top: Top, cut: Option<Cut
     ensures hits { result.hits.items
         ≡ (closed top.k (row_of (S.key_of parts.now)) top.hits cut).hits }
     ensures cut { result.cut ≡ (closed top.k (row_of (S.key_of parts.now)) top.hits cut).cut }
+    ensures of { All (IsHitOf (S.listed parts.now) piece) result.hits.items }
     ensures places { result.hits.places ≡ top.places }
 {
     let report = top.close(parts, cut);

@@ -3,11 +3,13 @@
 -- documents and the transducer of their suggestions, and a cost is what a weight lacks to the
 -- greatest.
 use Rattle.std.specs.Prelude.{◌≡◌, ◌≤◌, ◌<◌, ℕ, ◌-◌, length, map, List, [], ◌∷◌}
+use Rattle.std.specs.List.{All}
 use Rattle.sg_base.specs.declared.limits.TheConstants.{MOST_WEIGHT}
 use Rattle.sg_paths.specs.declared.limits.TheConstants.{MOST_SEGMENT_DOCUMENTS}
 use Rattle.sg_paths.specs.declared.limits.TheConstants.{MOST_SEGMENT_PATHS}
 use Rattle.sg_paths.specs.Operations.{PlainNumbered}
 use Rattle.sg_paths.specs.AllPaths.{FullPath, all_paths, path_bytes}
+use Rattle.sg_paths.specs.PathLaws.{IsLegal}
 use Rattle.fst_code.specs.Tails.{Tail}
 use Rattle.fst_code.specs.Bytes.{nodes_of}
 use Rattle.fst_code.specs.Lists.{list_of, IsCanonical, IsOnlyText}
@@ -41,6 +43,7 @@ pub record Represents (docs : List PlainNumbered) (text : List ℕ) : Type 0 whe
   pub canonical : IsCanonical (nodes_of text)
   pub only : IsOnlyText (path_tails docs) text
   pub contexts : AllHaveContexts (path_tails docs)
+  pub legal : All (λ p. IsLegal p.entry) (all_paths docs)
   pub rise : NumbersRise docs
   pub few : length docs ≤ MOST_SEGMENT_DOCUMENTS
   pub many : length (all_paths docs) ≤ MOST_SEGMENT_PATHS

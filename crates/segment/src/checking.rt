@@ -1,8 +1,8 @@
 //! The check of a segment's bytes.
-ghost use Rattle.std.specs.Prelude.{◌≡◌, IfErr, IfOk};
-ghost use Rattle.fst_code.specs.Shapes.{IsBytes};
-ghost use Rattle.segment.specs.Checking.{IsRead, RefusesEarly, IsBuilt};
+ghost use Rattle.std.specs.Prelude.{◌≡◌, ◌≤◌, length, IfErr, IfOk, None};
+ghost use Rattle.segment.specs.Checking.{IsBuilt, IsFound, IsRead, RefusesEarly};
 ghost use Rattle.segment.specs.Faults.{Accepts, Refuses};
+ghost use Rattle.segment.specs.Rules.{header_broken};
 
 use crate::comparing::{wrong_counts, wrong_rest};
 use crate::counting::exceed;
@@ -14,30 +14,48 @@ use seg_bytes::{DocumentsRead, ReadError, misplaced_number, read_documents};
 use sg_paths::{Numbered, paths_of};
 use std::alloc::Global;
 
+/// The documents, where their numbers are sound.
+fn numbered(bytes: &[u8], read: DocumentsRead) -> Result<DocumentsRead, CodeError>
+    requires { IsFound bytes.now read.docs.items read.end }
+    ensures ok { IfOk result (λ r. IsRead bytes.now r.docs.items r.end) }
+    ensures err { IfErr result (RefusesEarly bytes.now) }
+{
+    match misplaced_number(read.docs.as_slice(), HEADER) {
+        None => Ok(read),
+        Some(at) => Err(CodeError::Bad {
+            rule: 5,
+            at: at as u64,
+        }),
+    }
+}
+
+/// The documents behind a sound header, where the fourth and the fifth rule hold.
+fn documents_behind(alloc: Global, bytes: &[u8]) -> Result<DocumentsRead, CodeError>
+    requires header { header_broken bytes.now ≡ None }
+    requires whole { 20 ≤ length bytes.now }
+    ensures ok { IfOk result (λ r. IsRead bytes.now r.docs.items r.end) }
+    ensures err { IfErr result (RefusesEarly bytes.now) }
+{
+    let count = number_in_four(bytes, DOCUMENT_COUNT);
+    match read_documents(alloc, bytes, HEADER, count) {
+        Ok(read) => numbered(bytes, read),
+        Err(ReadError::Bad { at }) => Err(CodeError::Bad { rule: 4, at }),
+        Err(ReadError::Memory) => Err(CodeError::Memory),
+    }
+}
+
 /// The documents, where the first five rules hold.
 fn documents_of(alloc: Global, bytes: &[u8]) -> Result<DocumentsRead, CodeError>
     ensures ok { IfOk result (λ r. IsRead bytes.now r.docs.items r.end) }
     ensures err { IfErr result (RefusesEarly bytes.now) }
 {
-    if let Some((rule, at)) = header_fault(bytes) {
-        return Err(CodeError::Bad {
+    match header_fault(bytes) {
+        None => documents_behind(alloc, bytes),
+        Some((rule, at)) => Err(CodeError::Bad {
             rule,
             at: at as u64,
-        });
+        }),
     }
-    let count = number_in_four(bytes, DOCUMENT_COUNT);
-    let read = match read_documents(alloc, bytes, HEADER, count) {
-        Ok(read) => read,
-        Err(ReadError::Bad { at }) => return Err(CodeError::Bad { rule: 4, at }),
-        Err(ReadError::Memory) => return Err(CodeError::Memory),
-    };
-    if let Some(at) = misplaced_number(read.docs.as_slice(), HEADER) {
-        return Err(CodeError::Bad {
-            rule: 5,
-            at: at as u64,
-        });
-    }
-    Ok(read)
 }
 
 /// The segment of the documents, where the sixth rule holds too.

@@ -127,6 +127,7 @@ impl Segment {
     pub fn table(&self) -> &SegTable
         ensures documents { result.now ≡ self.now }
         ensures rise { NumbersRise self.now }
+        ensures legal { All (λ p. IsLegal p.entry) (all_paths self.now) }
         ensures most { length (all_paths self.now) ≤ MOST_SEGMENT_PATHS }
     {
         &self.table

@@ -1,5 +1,5 @@
 -- The first free arc is found where it stands.
-use Rattle.std.proofs.Common.{◌≡◌, ◌<◌, ℕ, ap, ◌∙◌, arith, sym, length, ◌∷◌, length-append, ◌+◌}
+use Rattle.std.proofs.Common.{ap, ◌∙◌, arith, sym}
 use Rattle.sg_base.specs.declared.node.Edge.{Edge}
 use Rattle.fst_code.specs.Views.{edges_of}
 use Rattle.best_first.proofs.SearchLemmas.{not_yet, found_free}

@@ -1,5 +1,5 @@
 -- The first free arc is still to come.
-use Rattle.std.proofs.Common.{◌≡◌, ℕ, ◌≤◌, ◌-◌, List, length}
+use Rattle.std.proofs.Common.{◌≤◌, ◌-◌, List, length}
 use Rattle.sg_base.specs.declared.node.Edge.{Edge}
 use Rattle.fst_code.specs.Views.{edges_of}
 use Rattle.best_first.specs.Steps.{IsFree}

@@ -1,5 +1,5 @@
 -- The path goes on along the first free arc.
-use Rattle.std.proofs.Common.{◌≡◌, ap, ◌∙◌, sym, ◌+◌, List, length}
+use Rattle.std.proofs.Common.{◌≡◌, ap, ◌∙◌, ◌+◌, List, length}
 use Rattle.fst_code.specs.Views.{edges_of}
 use Rattle.path_desk.specs.Desks.{path_of}
 use Rattle.best_first.specs.Followed.{FollowsPath}

@@ -1,5 +1,5 @@
 -- The path is followed, and each label took a step.
-use Rattle.std.proofs.Common.{◌≡◌, ℕ, ◌≤◌, ◌-◌, ◌+◌, ◌⊎◌, List, length}
+use Rattle.std.proofs.Common.{◌≡◌, ◌≤◌, ◌-◌, ◌+◌, ◌⊎◌, List, length}
 use Rattle.path_desk.specs.Desks.{path_of}
 use Rattle.best_first.specs.Followed.{FollowsPath}
 use Rattle.best_first.specs.Matches.{Match}

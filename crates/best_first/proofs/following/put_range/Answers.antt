@@ -1,5 +1,5 @@
 -- One more entry is put in.
-use Rattle.std.proofs.Common.{◌≡◌, ℕ, ap, ◌∙◌, arith, sym, subst, refl}
+use Rattle.std.proofs.Common.{ap, ◌∙◌, arith, sym, subst, refl}
 use Rattle.sg_base.specs.Lists.{In}
 use Rattle.fst_code.specs.Views.{edges_of}
 use Rattle.best_first.specs.Steps.{child_entry}

@@ -1,5 +1,5 @@
 -- What is still to be put in leads to the same desk.
-use Rattle.std.proofs.Common.{◌≡◌, ℕ, ◌≤◌, ◌-◌, List, length, map, take, drop}
+use Rattle.std.proofs.Common.{◌≡◌, ◌≤◌, ◌-◌, map, take, drop}
 use Rattle.fst_code.specs.Views.{edges_of}
 use Rattle.path_desk.specs.Entries.{queued}
 use Rattle.path_desk.specs.Desks.{path_of}

@@ -1,5 +1,5 @@
 -- Each start that is given is put in, until none is left.
-use Rattle.std.proofs.Common.{true, ◌≡◌, ◌∙◌, ap, sym, subst, refl, arith, [], ◌≤◌, ◌<◌, ◌+◌, length}
+use Rattle.std.proofs.Common.{true, ◌≡◌, ◌∙◌, ap, subst, refl, arith, []}
 use Rattle.sg_base.specs.ByteStrings.{lacks}
 use Rattle.sg_context.specs.Queries.{PlainQuery, IsQuery}
 use Rattle.best_first.specs.Roots.{Loading}
@@ -72,13 +72,15 @@ returns-clause-loaded g c =
     )
 
 pub returns-clause-query : goal.returns-clause-query
-returns-clause-query g c =
-    (subst IsQuery c.query.view_is c.query.invariant,
-     subst (λ (q : PlainQuery). lacks 0 q.prefix ≡ true) c.query.view_is
-     (key_lacks_end c.query.inside.prefix c.as_slice-prefix.ensures.key))
+returns-clause-query g c = (
+  subst IsQuery c.query.view_is c.query.invariant,
+  subst (λ (q : PlainQuery). lacks 0 q.prefix ≡ true) c.query.view_is
+      (key_lacks_end c.query.inside.prefix c.as_slice-prefix.ensures.key),
+)
 
 pub returns-in_err-put_start-clause-query : goal.returns-in_err-put_start-clause-query
-returns-in_err-put_start-clause-query g c =
-    (subst IsQuery c.query.view_is c.query.invariant,
-     subst (λ (q : PlainQuery). lacks 0 q.prefix ≡ true) c.query.view_is
-     (key_lacks_end c.query.inside.prefix c.as_slice-prefix.ensures.key))
+returns-in_err-put_start-clause-query g c = (
+  subst IsQuery c.query.view_is c.query.invariant,
+  subst (λ (q : PlainQuery). lacks 0 q.prefix ≡ true) c.query.view_is
+      (key_lacks_end c.query.inside.prefix c.as_slice-prefix.ensures.key),
+)

@@ -1,17 +1,14 @@
 -- One path more is reached.
-use Rattle.std.proofs.Common.{◌≡◌, ◌∙◌, ◌+◌, ◌∷◌, ap, sym, subst, cond, take}
+use Rattle.std.proofs.Common.{◌∙◌, ◌+◌, ◌∷◌, ap, cond, take}
 use Rattle.sg_base.specs.Rows.{put_row}
 use Rattle.sg_paths.specs.AllPaths.{all_paths}
-use Rattle.path_desk.specs.Entries.{queued}
-use Rattle.path_desk.specs.Desks.{path_of}
-use Rattle.collector.specs.Hits.{row_of, rows_of}
-use Rattle.best_first.specs.Followed.{FollowsPath, setting, starts_of}
+use Rattle.collector.specs.Hits.{rows_of}
+use Rattle.best_first.specs.Followed.{setting, starts_of}
 use Rattle.best_first.specs.Met.{IsMet}
 use Rattle.best_first.specs.PathMatches.{all_matches, match_at}
 use Rattle.best_first.proofs.BetweenLemmas.{between-after}
 use Rattle.best_first.proofs.FollowLemmas.{ordinal, suggestion, ends, end_row}
 use Rattle.best_first.proofs.SearchLemmas.{is-some}
-use Rattle.best_first.proofs.reaching.follow_and_reach.Given.{Over}
 use Rattle.best_first.proofs.reaching.follow_and_reach.Goals as goal
 
 pub reach-requires-clause-followed : goal.reach-requires-clause-followed

@@ -1,10 +1,10 @@
 -- The search keeps what holds between two paths, and ends where it is done or its queue is empty.
-use Rattle.std.proofs.Common.{◌≡◌, ◌∙◌, ap, sym, subst}
+use Rattle.std.proofs.Common.{◌∙◌, ap, sym, subst}
 use Rattle.std.specs.Prelude.{option_map}
 use Rattle.sg_paths.specs.AllPaths.{all_paths}
 use Rattle.path_desk.specs.Desks.{cut_at}
 use Rattle.collector.specs.Hits.{row_of}
-use Rattle.best_first.specs.Followed.{FollowsPath, ClosesAs, setting}
+use Rattle.best_first.specs.Followed.{setting}
 use Rattle.best_first.specs.Met.{IsMet}
 use Rattle.best_first.specs.PathMatches.{all_matches}
 use Rattle.best_first.specs.Segments.{Follows}
@@ -21,15 +21,18 @@ follow_and_reach-requires-clause-follows g c =
     let start = c.requires.begun in
     let r = c.loop-desk.invariant.between.0 in
     let b = c.loop-desk.invariant.between.1 in
-    let e = c.in-Some.ensures in
-    (r, record {
-      searches = searches c.args.query.now ds nodes c.args.live.now start.documents start.mapping
-          start.is_query start.key;
-      follows = subst (λ z. Follows (all_matches s (all_paths ds)) (IsMet s nodes) r z
-          c.in-Some.entry) (sym e.3)
-          (follows-first (all_matches s (all_paths ds)) (IsMet s nodes) r c.loop-desk.desk
-          c.in-Some.entry e.0 e.1 b.searching b.idle e.2);
-    }, b.kept)
+    let e = c.in-Some.ensures in (
+      r,
+      record {
+        searches = searches c.args.query.now ds nodes c.args.live.now start.documents start.mapping
+            start.is_query start.key;
+        follows = subst (λ z. Follows (all_matches s (all_paths ds)) (IsMet s nodes) r z
+            c.in-Some.entry) (sym e.3)
+            (follows-first (all_matches s (all_paths ds)) (IsMet s nodes) r c.loop-desk.desk
+            c.in-Some.entry e.0 e.1 b.searching b.idle e.2);
+      },
+      b.kept,
+    )
 
 pub returns-clause-search : goal.returns-clause-search
 returns-clause-search g c =

@@ -9,9 +9,9 @@ use lib.Utf8.{encode}
 use Rattle.fst_code.specs.Rules.{postorder}
 use Rattle.fst_code.specs.Shapes.{IsBytes}
 use Rattle.fst_code.specs.Tails.{tails}
-use Rattle.seg_bytes.specs.Fields.{part_at, number_at, text_at, many_at}
+use Rattle.seg_bytes.specs.Fields.{part_at, number_at, text_at, tested, many_at}
 use Rattle.seg_bytes.specs.DocumentBytes.{suggestion_bytes, document_bytes}
-use Rattle.seg_bytes.specs.DocumentsRead.{context_at, suggestion_at, document_at}
+use Rattle.seg_bytes.specs.DocumentsRead.{suggestion_at, document_at}
 use Rattle.seg_bytes.specs.Numbers.{wrong_number_after}
 use Rattle.segment.specs.Example.{example_text}
 use Rattle.segment.proofs.laws.the_example_is_written.Goals as goal
@@ -26,8 +26,8 @@ are_bytes (b ∷ bs) h (suc i) =
     are_bytes bs (and_parts (nat_lt b 256) (list_all (λ b. nat_lt b 256) bs) h).1 i
 
 pub returns : goal.returns
-unfolding part_at number_at text_at many_at suggestion_bytes document_bytes context_at suggestion_at
-  document_at wrong_number_after is_utf8 chars encode postorder tails
+unfolding part_at number_at text_at tested many_at suggestion_bytes document_bytes suggestion_at
+    document_at wrong_number_after is_utf8 chars encode postorder tails
 returns c = record {
   text = record { bytes = are_bytes example_text refl; valid = refl; maps = refl };
   bytes = refl;

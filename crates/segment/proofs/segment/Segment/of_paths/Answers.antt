@@ -22,6 +22,7 @@ represents docs held text paths h is maps canonical only legal rise few many =
       canonical = canonical;
       only = subst (λ z. IsOnlyText (map path_tail z) text) is only;
       contexts = subst (λ z. AllHaveContexts (map path_tail z)) is (all_have_contexts paths legal);
+      legal = subst (λ (z : List FullPath). All (λ p. IsLegal p.entry) z) is legal;
       rise = rise;
       few = few;
       many = subst (λ (z : List FullPath). length z ≤ 4194304) is many
