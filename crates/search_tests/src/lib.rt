@@ -4,3 +4,11 @@
 
 #[cfg(test)]
 mod desk;
+#[cfg(test)]
+mod generated;
+#[cfg(test)]
+mod making;
+#[cfg(test)]
+mod reports;
+#[cfg(test)]
+mod searches;
