@@ -3,4 +3,6 @@
 #![tactic(auto)]
 
 #[cfg(test)]
+mod collecting;
+#[cfg(test)]
 mod desk;
