@@ -6,3 +6,11 @@
 mod collecting;
 #[cfg(test)]
 mod desk;
+#[cfg(test)]
+mod generated;
+#[cfg(test)]
+mod making;
+#[cfg(test)]
+mod reports;
+#[cfg(test)]
+mod searches;

@@ -1,6 +1,6 @@
 -- Documents that were written are read back.
 use Rattle.std.proofs.Common.{◌≡◌, ◌≤◌, ◌<◌, ℕ, Bool, true, ◌&&◌, List, [], ◌∷◌, ◌++◌}
-use Rattle.std.proofs.Common.{length, arith}
+use Rattle.std.proofs.Common.{◌+◌, length, arith}
 use Rattle.std.proofs.lemmas.Bool.{and_parts, leb-true}
 use Rattle.std.specs.Prelude.{nat_le}
 use Rattle.std.specs.Str.{is_utf8}
@@ -16,6 +16,11 @@ use Rattle.seg_bytes.specs.DocumentsRead.{may_be_text, may_be_key, may_be_weight
 use Rattle.seg_bytes.specs.DocumentsRead.{may_be_context, may_be_id, may_be_suggestions}
 use Rattle.seg_bytes.specs.DocumentsRead.{context_at, suggestion_at, document_at}
 use Rattle.seg_bytes.specs.Laws.{IsReadBack, IsWritable, IsWritableSuggestion, DocumentsReadBack}
+use Rattle.seg_bytes.specs.Laws.{OneListOfDocuments}
+use Rattle.seg_bytes.specs.DocumentBytes.{documents_bytes}
+use Rattle.seg_bytes.specs.DocumentsRead.{documents_at}
+use Rattle.seg_bytes.proofs.OnlyLemmas.{same_value}
+use Rattle.std.proofs.Common.{sym, ap, ◌∙◌}
 use Rattle.seg_bytes.proofs.BackLemmas.{both, with_result, number_1, number_4, number_8, text_1}
 use Rattle.seg_bytes.proofs.BackLemmas.{text_2, tested_back, many_back}
 
@@ -138,3 +143,13 @@ each_back (d ∷ ds) a = (document_back d a.0, each_back ds a.1)
 
 pub documents_back : DocumentsReadBack
 documents_back ds a = many_back document_at document_bytes ds (each_back ds a)
+
+-- so the bytes tell the documents
+pub one_list : OneListOfDocuments
+one_list docs others a b len same =
+    same_value docs others (0 + length (documents_bytes docs))
+    (0 + length (documents_bytes others))
+    (sym (documents_back docs a [] [])
+    ∙ ap (λ n. documents_at n (documents_bytes docs ++ []) 0) len
+    ∙ ap (λ bytes. documents_at (length others) (bytes ++ []) 0) same
+    ∙ documents_back others b [] [])

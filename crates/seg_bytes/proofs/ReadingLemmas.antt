@@ -96,3 +96,10 @@ pub taken_refused : {A : Type 0} (test : A → Bool) (read : Reader A) (bytes : 
 taken_refused test read bytes at x end (Bad k) h t =
     tested_broken test read bytes at x end h t.0 ∙ ap broken (sym t.1)
 taken_refused test read bytes at x end Memory h t = tt
+
+-- for parts, numbers and bytes behind their length
+pub ruleset field_steps = (refusal, number_is, number_refused, text_reads, text_refused)
+
+-- for fields with a test
+pub ruleset test_steps =
+    (refusal, tested_is, tested_broken, tested_refused, taken_is, taken_refused)

@@ -36,6 +36,13 @@ DocumentsReadBack =
     (docs : List PlainNumbered) → AllByRecursion IsWritable docs
     → IsReadBack (documents_at (length docs)) (documents_bytes docs) docs
 
+-- as many documents with the same bytes are the same documents
+abbrev pub OneListOfDocuments : Type 0
+OneListOfDocuments =
+    (docs others : List PlainNumbered) → AllByRecursion IsWritable docs
+    → AllByRecursion IsWritable others → length docs ≡ length others
+    → documents_bytes docs ≡ documents_bytes others → docs ≡ others
+
 -- these bytes stand there
 abbrev pub StandsAt : List ℕ → ℕ → List ℕ → Type 0
 StandsAt part at bytes = take (length part) (drop at bytes) ≡ part

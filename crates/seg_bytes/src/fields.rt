@@ -1,5 +1,5 @@
 //! Fields of bytes: parts, numbers, and bytes behind their length.
-#![tactic(auto, using(crate::proofs::ReadingLemmas::refusal, crate::proofs::ReadingLemmas::number_is, crate::proofs::ReadingLemmas::number_refused, crate::proofs::ReadingLemmas::text_reads, crate::proofs::ReadingLemmas::text_refused))]
+#![tactic(auto, using(crate::proofs::ReadingLemmas::field_steps))]
 
 ghost use Rattle.std.specs.Prelude.{◌≡◌, ◌+◌, nat_le, IfOk, length};
 ghost use Rattle.std.specs.Int.{w8, w16, w32, w64};

@@ -19,7 +19,10 @@ mod writing;
 
 pub use documents::{DocumentsRead, read_documents};
 pub use error::ReadError;
-pub use laws::{the_example_is_read, what_is_read_was_written, what_was_written_is_read};
+pub use laws::{
+    the_bytes_tell_the_documents, the_example_is_read, what_is_read_was_written,
+    what_was_written_is_read,
+};
 pub use lengths::documents_len;
 pub use limits::{MOST_SEQ, limits_are_exact};
 pub use numbers::misplaced_number;

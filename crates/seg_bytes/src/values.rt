@@ -1,5 +1,5 @@
 //! The fields of documents, each with its limits.
-#![tactic(auto, using(crate::proofs::ReadingLemmas::refusal, crate::proofs::ReadingLemmas::tested_is, crate::proofs::ReadingLemmas::tested_broken, crate::proofs::ReadingLemmas::tested_refused, crate::proofs::ReadingLemmas::taken_is, crate::proofs::ReadingLemmas::taken_refused))]
+#![tactic(auto, using(crate::proofs::ReadingLemmas::test_steps))]
 
 ghost use Rattle.std.specs.Prelude.{◌≡◌, ◌≤◌, ◌<◌, IfOk, length};
 ghost use Rattle.std.specs.Int.{w8, w16, w32};

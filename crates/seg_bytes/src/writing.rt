@@ -43,7 +43,8 @@ fn put_short(out: &mut Vec<u8>, bytes: &[u8]) -> Result<(), AllocError>
     requires { length bytes.now ≤ 255 }
     ensures appended { OnOk result (out.new.items ≡ out.old.items ++ short_bytes bytes.now) }
     ensures room { vec_capacity out.old ≤ vec_capacity out.new }
-    ensures full { OnErr result (vec_capacity out.old < length out.old.items + (1 + length bytes.now)) }
+    ensures full { OnErr result (vec_capacity out.old
+        < length out.old.items + (1 + length bytes.now)) }
 {
     out.push(bytes.len() as u8)?;
     out.extend_from_slice(bytes)
@@ -59,7 +60,8 @@ fn put_context(out: &mut Vec<u8>, context: &Context) -> Result<(), AllocError>
 }
 
 fn put_contexts(out: &mut Vec<u8>, contexts: &[Context]) -> Result<(), AllocError>
-    ensures appended { OnOk result (out.new.items ≡ out.old.items ++ flat_map short_bytes contexts.now) }
+    ensures appended { OnOk result (out.new.items
+        ≡ out.old.items ++ flat_map short_bytes contexts.now) }
     ensures room { vec_capacity out.old ≤ vec_capacity out.new }
     ensures full { OnErr result (vec_capacity out.old
         < length out.old.items + length (flat_map short_bytes contexts.now)) }
@@ -72,7 +74,8 @@ fn put_contexts(out: &mut Vec<u8>, contexts: &[Context]) -> Result<(), AllocErro
 
 #[tactic(auto, unfolding(crate::specs::DocumentBytes::suggestion_bytes))]
 fn put_suggestion(out: &mut Vec<u8>, suggestion: &Suggestion) -> Result<(), AllocError>
-    ensures appended { OnOk result (out.new.items ≡ out.old.items ++ suggestion_bytes suggestion.now) }
+    ensures appended { OnOk result (out.new.items
+        ≡ out.old.items ++ suggestion_bytes suggestion.now) }
     ensures room { vec_capacity out.old ≤ vec_capacity out.new }
     ensures full { OnErr result (vec_capacity out.old
         < length out.old.items + length (suggestion_bytes suggestion.now)) }

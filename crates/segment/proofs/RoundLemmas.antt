@@ -231,3 +231,16 @@ finds_by None bytes a b f g p q r s =
 pub finds_one : FindsOne
 finds_one bytes f g x y =
     finds_by (first_six_broken bytes) bytes x.text y.text f g x.given y.given x.first y.first
+
+-- so the check of what was written names no rule, and gives the same documents
+pub none_refused : WrittenIsAccepted → (docs : List PlainNumbered) (bytes : List ℕ) (x : ℕ × ℕ)
+    → MayBeHeld docs → IsWritten docs bytes → length bytes < 18446744073709551616
+    → Finds bytes (Some x) → ⊥
+none_refused law docs bytes x may w fits found =
+    let same = finds_one bytes None (Some x) (law docs bytes may w fits).0 found in absurd cc
+
+pub same_documents : WrittenIsAccepted → (docs held : List PlainNumbered) (bytes : List ℕ)
+    → MayBeHeld docs → IsWritten docs bytes → length bytes < 18446744073709551616
+    → Accepts bytes held → held ≡ docs
+same_documents law docs held bytes may w fits a =
+    a.1 ∙ sym (law docs bytes may w fits).1

@@ -1,6 +1,8 @@
 //! What is true of the definitions.
 ghost use Rattle.segment.specs.Example.{TheExample};
-ghost use Rattle.segment.specs.Laws.{FindsOne};
+ghost use Rattle.segment.specs.Laws.{FindsOne, WrittenIsAccepted};
+
+use seg_bytes::what_was_written_is_read;
 
 /// The format's example has its 189 bytes, and breaks no rule.
 pub fn the_example_is_written()
@@ -11,3 +13,10 @@ pub fn the_example_is_written()
 pub fn one_thing_is_found()
     ensures { FindsOne }
 {}
+
+/// What was written breaks no rule, and its documents are read back.
+pub fn what_was_written_is_accepted()
+    ensures { WrittenIsAccepted }
+{
+    what_was_written_is_read();
+}

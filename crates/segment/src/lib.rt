@@ -14,5 +14,5 @@ mod layout;
 mod segment;
 mod writing;
 
-pub use laws::{one_thing_is_found, the_example_is_written};
+pub use laws::{one_thing_is_found, the_example_is_written, what_was_written_is_accepted};
 pub use segment::Segment;

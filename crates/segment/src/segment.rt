@@ -1,6 +1,6 @@
 //! Segments.
 ghost use Rattle.std.specs.Prelude.{◌≡◌, ◌≤◌, ◌+◌, IfErr, IfOk, length, map};
-ghost use Rattle.std.specs.List.{All};
+ghost use Rattle.std.specs.List.{All, AllByRecursion};
 ghost use Rattle.sg_paths.specs.declared.limits.TheConstants.{MOST_SEGMENT_DOCUMENTS};
 ghost use Rattle.sg_paths.specs.declared.limits.TheConstants.{MOST_SEGMENT_PATHS};
 ghost use Rattle.sg_paths.specs.AllPaths.{all_paths, path_bytes, path_entries};
@@ -12,14 +12,17 @@ ghost use Rattle.fst_code.specs.Shapes.{IsBytes};
 ghost use Rattle.fst_code.specs.Transducers.{IsTransducer};
 ghost use Rattle.fst_walk.specs.Starts.{AllHaveContexts};
 ghost use Rattle.segment.specs.Faults.{Accepts, Refuses};
+ghost use Rattle.segment.specs.Laws.{IsNumbered};
 ghost use Rattle.segment.specs.Represents.{IsTextOf, NumbersRise, path_tails};
 ghost use Rattle.segment.specs.SegmentBytes.{IsWritten};
 
 use crate::building::transducer_of;
 use crate::checking::checked;
 use crate::documents::documents_of;
+use crate::laws::what_was_written_is_accepted;
 use crate::writing::written;
 use fst_code::{CodeError, Transducer};
+use seg_bytes::documents_len;
 use seg_table::SegTable;
 use sg_base::Bytes;
 use sg_paths::{Batch, MOST_SEGMENT_PATHS, Numbered, Path, paths_at_most, paths_of};
@@ -114,6 +117,22 @@ impl Segment {
         ensures err { IfErr result (Refuses bytes.items) }
     {
         checked(alloc, bytes.as_slice())
+    }
+
+    /// What `check` answers of the bytes that `write` gives: the same documents, or want of memory.
+    pub fn read_back(&self) -> Result<Segment, AllocError>
+        requires { AllByRecursion IsNumbered self.now }
+        ensures { IfOk result (λ s. s ≡ self.now) }
+    {
+        let bytes = self.write()?;
+        let _ = bytes.as_slice();
+        let _ = documents_len(self.table.docs());
+        what_was_written_is_accepted();
+        match Segment::check(self.alloc, bytes) {
+            Ok(segment) => Ok(segment),
+            Err(CodeError::Bad { .. }) => unreachable!(),
+            Err(CodeError::Memory) => Err(AllocError),
+        }
     }
 
     /// The bytes of the transducer.

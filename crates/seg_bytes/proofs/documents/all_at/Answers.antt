@@ -8,18 +8,21 @@ use Rattle.seg_bytes.proofs.documents.all_at.Goals as goal
 
 pub returns-in_err-document-clause-value : goal.returns-in_err-document-clause-value
 returns-in_err-document-clause-value c =
+    let bytes = c.args.bytes.now in
+    let out = c.loop.docs.items in
     refusal _ _ c.from_residual.result _ c.from_residual.ensures.1
-    (one_refused document_at c.args.bytes.now c.args.at c.args.count c.loop.docs.items c.loop.end
-    c.loop.counter _ c.loop-test.true c.in_err-document.ensures c.loop.invariant.0)
+    (one_refused document_at bytes c.args.at c.args.count out c.loop.end c.loop.counter _
+    c.loop-test.true c.in_err-document.ensures c.loop.invariant.0)
 
 pub loop-preserved : goal.loop-preserved
 loop-preserved c =
-    let pushed = c.in_ok-push.ensures in (
-      subst (λ items. Continues document_at c.args.bytes.now c.args.at c.args.count items
-          c.in_ok-document.document.end (c.loop.counter + 1)) (sym pushed)
-          (one_more document_at c.args.bytes.now c.args.at c.args.count c.loop.docs.items c.loop.end
-          c.loop.counter c.in_ok-document.document.value c.in_ok-document.document.end c.loop-test.true
-          c.in_ok-document.ensures c.loop.invariant.0),
+    let bytes = c.args.bytes.now in
+    let item = c.in_ok-document.document in
+    let more = one_more document_at bytes c.args.at c.args.count c.loop.docs.items c.loop.end
+    c.loop.counter item.value item.end c.loop-test.true c.in_ok-document.ensures
+    c.loop.invariant.0 in (
+      subst (λ items. Continues document_at bytes c.args.at c.args.count
+          items item.end (c.loop.counter + 1)) (sym c.in_ok-push.ensures) more,
       grind (arith, common_steps),
     )
 

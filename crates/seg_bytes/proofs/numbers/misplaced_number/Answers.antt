@@ -25,9 +25,10 @@ loop-numbered-preserved c =
     let value = c.document_len-start.ensures.value in
     let more = length_more document_bytes c.args.docs.now c.loop-numbered.numbered-index
     c.numbered-item.result c.loop-numbered-test.true c.numbered-item.is in
+    let start = c.loop-numbered.start in
     let so_far = c.loop-numbered.invariant.1 in (
-      ap (λ n. wrong_number_after n (c.loop-numbered.start + c.document_len-start.result) rest) seq
-          ∙ ap (λ n. wrong_number_after c.numbered-item.result.seq (c.loop-numbered.start + n) rest) value
+      ap (λ n. wrong_number_after n (start + c.document_len-start.result) rest) seq
+          ∙ ap (λ n. wrong_number_after c.numbered-item.result.seq (start + n) rest) value
           ∙ sym (one_rises c.args.docs.now c.loop-numbered.numbered-index c.numbered-item.result
           c.loop-numbered.last c.loop-numbered.start c.loop-numbered-test.true c.numbered-item.is
           (ap (λ n. nat_lt c.loop-numbered.last n && nat_le n MOST_SEQ) (sym seq)

@@ -6,8 +6,9 @@ use Rattle.seg_bytes.proofs.writing.put_suggestions.Goals as goal
 
 pub returns-in_err-put_suggestion-clause-full : goal.returns-in_err-put_suggestion-clause-full
 returns-in_err-put_suggestion-clause-full c =
+    let l = c.loop-suggestion in
     on_err c.from_residual.result
-    (full_in suggestion_bytes c.args.suggestions.now c.loop-suggestion.suggestion-index c.suggestion-item.result
-    c.loop-suggestion-test.true c.suggestion-item.is c.args.out.now.items c.loop-suggestion.out.items
-    c.loop-suggestion.invariant.0 (vec_capacity c.args.out.now) (vec_capacity c.loop-suggestion.out)
-    c.loop-suggestion.invariant.1 c.in_err-put_suggestion.ensures.full)
+    (full_in suggestion_bytes c.args.suggestions.now l.suggestion-index c.suggestion-item.result
+    c.loop-suggestion-test.true c.suggestion-item.is c.args.out.now.items l.out.items
+    l.invariant.0 (vec_capacity c.args.out.now) (vec_capacity l.out)
+    l.invariant.1 c.in_err-put_suggestion.ensures.full)

@@ -1,0 +1,253 @@
+ghost use Rattle.std.specs.Prelude.{◌≡◌, ◌<◌, length};
+
+use crate::making::{live_of, query_of, segment_of};
+use crate::reports::{shown_hits, shown_ranks};
+use crate::searches::searched;
+use path_desk::SegReport;
+use seg_live::Live;
+use segment::Segment;
+use sg_answers::{MOST_QUEUED, NumberedRef, first_rows};
+use sg_base::{Cut, Rank};
+use sg_context::{Query, boost_of};
+use sg_paths::{MOST_SEGMENT_DOCUMENTS, MOST_SEGMENT_PATHS, Numbered, Path, paths_at_most, paths_of};
+use std::alloc::Global;
+use std::process::Abort;
+use std::test::Fail;
+
+const KEYS: &str = "a|ab|abc|abd|ac|aba|b|ba";
+const ONE_CONTEXT: &str = "|@p|@q|@p";
+const CONTEXTS: &str = "@r|@p|@q|@p,q";
+const PREFIXES: &str = ".|a|ab|b";
+const ASKED: &str = "| p=1| p=2 q=1| *=3| q=2 p=1 r=2| r=1| =2 p=1|";
+
+// A linear congruential generator.
+#[derive(Drop)]
+struct Numbers {
+    state: u64,
+}
+
+impl Numbers {
+    fn below(&mut self, count: u32) -> u32
+        requires { 0 < count }
+        ensures { result < count }
+    {
+        self.state = self
+            .state
+            .wrapping_mul(6_364_136_223_846_793_005)
+            .wrapping_add(1_442_695_040_888_963_407);
+        (self.state >> 33) as u32 % count
+    }
+
+    // One of so many parts, with `|` between them.
+    fn part<'p>(&mut self, parts: &'p str, count: u32) -> Result<&'p str, Fail>
+        requires { 0 < count }
+    {
+        let at = self.below(count) as usize;
+        Ok(parts.split('|').nth(at).ok_or("no such part")?)
+    }
+}
+
+// The texts of documents, of the places of the deleted ones, which have the greater weights, and of
+// a query.
+#[derive(Drop)]
+struct Case {
+    documents: String,
+    dead: String,
+    query: String,
+}
+
+fn push_suggestion(
+    numbers: &mut Numbers,
+    documents: &mut String,
+    contexts: &str,
+    is_dead: bool,
+) -> Result<(), Fail> {
+    let key = numbers.part(KEYS, 8)?;
+    let contexts = numbers.part(contexts, 4)?;
+    let weight = numbers.below(5);
+    let weight = if is_dead { weight + 5 } else { weight };
+    let suggestion = format!(in *documents.allocator(); " {key}:{weight}{contexts}")?;
+    documents.push_str(suggestion.as_str())?;
+    Ok(())
+}
+
+// A document with at most so many suggestions. Where there is one, it has one context, so that
+// queues are short.
+fn push_document(
+    numbers: &mut Numbers,
+    documents: &mut String,
+    most: u32,
+    is_dead: bool,
+) -> Result<(), Fail>
+    requires { 0 < most }
+{
+    if !documents.is_empty() {
+        documents.push_str(";")?;
+    }
+    let contexts = if most == 1 { ONE_CONTEXT } else { CONTEXTS };
+    for _ in 0..1 + numbers.below(most) {
+        push_suggestion(numbers, documents, contexts, is_dead)?;
+    }
+    Ok(())
+}
+
+fn case_of(alloc: Global, numbers: &mut Numbers) -> Result<Case, Fail> {
+    let mut documents = String::new(alloc);
+    let mut dead = String::new(alloc);
+    let deleted = numbers.below(4);
+    let most = 1 + numbers.below(2);
+    for place in 0..1 + numbers.below(20) {
+        let is_dead = numbers.below(4) < deleted;
+        if is_dead {
+            dead.push_str(format!(in alloc; "{place} ")?.as_str())?;
+        }
+        push_document(numbers, &mut documents, most, is_dead)?;
+    }
+    let prefix = numbers.part(PREFIXES, 4)?;
+    let at_most = 1 + numbers.below(20);
+    let k = 1 + numbers.below(at_most);
+    let asked = numbers.part(ASKED, 8)?;
+    let query = format!(in alloc; "{prefix} {k}{asked}")?;
+    Ok(Case {
+        documents,
+        dead,
+        query,
+    })
+}
+
+// The first rows of the live documents, by a look at each of them.
+fn plain_rows(alloc: Global, query: &Query, segment: &Segment, live: &Live) -> Result<Vec<Rank>, Fail>
+    requires { length live.now ≡ length segment.now }
+{
+    let table = segment.table();
+    let mut documents = Vec::new(alloc);
+    for doc in 0..table.len() {
+        if live.is_live(doc) {
+            let numbered = table.doc(doc);
+            documents.push(NumberedRef {
+                seq: numbered.seq,
+                document: &numbered.document,
+            })?;
+        }
+    }
+    Ok(first_rows(alloc, query, documents.as_slice())?)
+}
+
+fn plain_paths(alloc: Global, docs: &[Numbered]) -> Result<Vec<Path>, Fail> {
+    if docs.len() as u64 > MOST_SEGMENT_DOCUMENTS || paths_at_most(docs) > MOST_SEGMENT_PATHS {
+        return Err("too many documents or paths".into());
+    }
+    Ok(paths_of(alloc, docs)?)
+}
+
+fn paths_of_document(paths: &[Path], doc: u32) -> usize {
+    paths.iter().filter(|path| path.doc == doc).count()
+}
+
+fn most_paths(paths: &[Path], documents: u32) -> usize {
+    let mut most = 0;
+    for doc in 0..documents {
+        most = most.max(paths_of_document(paths, doc));
+    }
+    most
+}
+
+// The queue size: k times the most paths of a document by the documents that a live one stands for.
+fn plain_queue_size(k: u32, most: usize, documents: u32, live: u32) -> u128 {
+    if live == 0 {
+        return 0;
+    }
+    let paths = u128::from(k)
+        .saturating_mul(most as u128)
+        .saturating_mul(u128::from(documents));
+    (paths / u128::from(live) + u128::from(paths % u128::from(live) > 0))
+        .min(u128::from(MOST_QUEUED))
+}
+
+fn has_at_least(query: &Query, path: &Path, score: u64) -> bool {
+    let context = path.context.as_str().as_bytes();
+    match boost_of(query.contexts.items(), context) {
+        Some(boost) => {
+            let own = u64::from(path.weight).saturating_mul(u64::from(boost));
+            path.key.as_slice().starts_with(query.prefix.as_slice()) && own >= score
+        }
+        None => false,
+    }
+}
+
+fn count_at_least(query: &Query, paths: &[Path], score: u64) -> usize {
+    paths
+        .iter()
+        .filter(|path| has_at_least(query, path, score))
+        .count()
+}
+
+fn precedes(row: &Rank, cut: &Cut) -> bool {
+    row.score > cut.score || row.score == cut.score && row.key.as_slice() < cut.key.as_slice()
+}
+
+// Whether the truncation point is one that a search may answer.
+fn is_spent(
+    alloc: Global,
+    query: &Query,
+    segment: &Segment,
+    live: &Live,
+    cut: &Cut,
+) -> Result<bool, Fail> {
+    let paths = plain_paths(alloc, segment.table().docs())?;
+    let documents = segment.table().len();
+    let most = most_paths(paths.as_slice(), documents);
+    let size = plain_queue_size(query.k, most, documents, live.count());
+    let count = count_at_least(query, paths.as_slice(), cut.score);
+    Ok(u128::from(cut.room) == size && count as u128 > size)
+}
+
+// Whether a report with these rows is truncated; it is compared with what the documents give.
+fn is_truncated(
+    rt: &impl Abort,
+    alloc: Global,
+    query: &Query,
+    segment: &Segment,
+    live: &Live,
+    report: &SegReport,
+) -> Result<bool, Fail>
+    requires { length live.now ≡ length segment.now }
+{
+    let mut wanted = plain_rows(alloc, query, segment, live)?;
+    let Some(cut) = &report.cut else {
+        let told = shown_hits(alloc, segment.table().docs(), report.hits.items())?;
+        assert_eq!(rt; told.as_str(), shown_ranks(alloc, wanted.as_slice())?.as_str());
+        return Ok(false);
+    };
+    wanted.retain(|row| precedes(row, cut));
+    let told = shown_hits(alloc, segment.table().docs(), report.hits.items())?;
+    assert_eq!(rt; told.as_str(), shown_ranks(alloc, wanted.as_slice())?.as_str());
+    assert!(rt; report.hits.items().len() < query.k as usize, "fewer rows than asked for");
+    assert!(rt; is_spent(alloc, query, segment, live, cut)?, "the queue was spent");
+    Ok(true)
+}
+
+fn is_case_truncated(rt: &impl Abort, alloc: Global, case: &Case) -> Result<Option<bool>, Fail> {
+    let query = query_of(alloc, case.query.as_str())?;
+    let segment = segment_of(alloc, case.documents.as_str())?;
+    let live = live_of(alloc, segment.table().len(), case.dead.as_str())?;
+    if live.count() == 0 {
+        return Ok(None);
+    }
+    let report = searched(alloc, &segment, &live, &query)?;
+    Ok(Some(is_truncated(rt, alloc, &query, &segment, &live, &report)?))
+}
+
+#[test]
+fn reports_are_what_documents_give(rt: HostRuntime) -> Result<(), Fail> {
+    let mut numbers = Numbers { state: 1 };
+    let mut truncated: u32 = 0;
+    for _ in 0..400 {
+        let case = case_of(rt.alloc(), &mut numbers)?;
+        if is_case_truncated(&rt, rt.alloc(), &case)? == Some(true) {
+            truncated = truncated.saturating_add(1);
+        }
+    }
+    assert!(rt; truncated >= 20, "{truncated} of 400 are truncated");
+    Ok(())
+}
