@@ -142,7 +142,8 @@ pub fn follow_to_end<S: SegParts<L>, L>(
         × (e.node.0 ≡ 0)) }
     ensures fixed { OnOk result
         ((desk.new.reached ≡ desk.old.reached) × (desk.new.room ≡ desk.old.room)) }
-    ensures ticks { steps.new ≤ steps.old + (most_path_bytes (S.nodes parts.now) - length (path_of desk.old)) }
+    ensures ticks { steps.new
+        ≤ steps.old + (most_path_bytes (S.nodes parts.now) - length (path_of desk.old)) }
     ensures lists { (desk.new.lists ≡ desk.old.lists) × (desk.new.need ≡ desk.old.need) }
 {
     let mut entry = first;

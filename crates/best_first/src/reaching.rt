@@ -143,7 +143,8 @@ pub fn reach_all<S: SegParts<L>, L>(
     ensures kept { IsKept (rows_of (S.key_of parts.now) top.new.hits) }
     ensures k { top.new.k ≡ top.old.k }
     ensures places { top.new.places ≡ top.old.places }
-    ensures ticks { steps.new ≤ steps.old + desk.old.room * (most_path_bytes (S.nodes parts.now) + 1) }
+    ensures ticks { steps.new
+        ≤ steps.old + desk.old.room * (most_path_bytes (S.nodes parts.now) + 1) }
     ensures lists { (desk.new.lists ≡ desk.old.lists) × (desk.new.need ≡ desk.old.need) }
 {
     while !is_done(parts, desk, top, one_start) {

@@ -3,6 +3,8 @@
 #![tactic(auto)]
 
 #[cfg(test)]
+mod collecting;
+#[cfg(test)]
 mod desk;
 #[cfg(test)]
 mod generated;

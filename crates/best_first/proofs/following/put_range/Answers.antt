@@ -11,9 +11,10 @@ put_child-requires-clause-within c =
     let edges = edges_of c.args.node in
     let e = c.edge.ensures c.edge.result in
     let low = c.loop-at-test.true in
+    let range = c.requires.range.1 in
     c.requires.within c.edge.result
     (subst (λ z. In z edges) (sym e)
-    (index-in edges c.edge.result c.loop-at.at (let r = c.requires.range.1 in omega (arith, low, r))))
+    (index-in edges c.edge.result c.loop-at.at (omega (arith, low, range))))
 
 pub loop-at-preserved : goal.loop-at-preserved
 loop-at-preserved c =
