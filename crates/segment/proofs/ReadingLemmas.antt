@@ -71,7 +71,7 @@ few_paths : (bytes : List ℕ) → header_broken bytes ≡ None → path_count b
 few_paths bytes h =
     let all = parts_of (rule_1 bytes) (rule_2 bytes) (rule_3 bytes) h in
     let both = both_of (broken_if (nat_lt 1048576 (document_count bytes)) 4)
-        (broken_if (nat_lt 4194304 (path_count bytes)) 8) all.2 in
+    (broken_if (nat_lt 4194304 (path_count bytes)) 8) all.2 in
     no_less 4194304 (path_count bytes) (not_broken (nat_lt 4194304 (path_count bytes)) 8 both.1)
 
 pub few_documents : (bytes : List ℕ) → header_broken bytes ≡ None
@@ -79,7 +79,7 @@ pub few_documents : (bytes : List ℕ) → header_broken bytes ≡ None
 few_documents bytes h =
     let all = parts_of (rule_1 bytes) (rule_2 bytes) (rule_3 bytes) h in
     let both = both_of (broken_if (nat_lt 1048576 (document_count bytes)) 4)
-        (broken_if (nat_lt 4194304 (path_count bytes)) 8) all.2 in
+    (broken_if (nat_lt 4194304 (path_count bytes)) 8) all.2 in
     no_less 1048576 (document_count bytes)
     (not_broken (nat_lt 1048576 (document_count bytes)) 4 both.0)
 
@@ -108,7 +108,7 @@ six_exceeds bytes docs end r h =
     let same = length-all_paths docs in
     let few = few_paths bytes r.found.header in
     let apart = ne_eqb (path_count bytes) (length (all_paths docs))
-        (λ e. omega (arith, many, same, few, e)) in
+    (λ e. omega (arith, many, same, few, e)) in
     six_is bytes docs end (length (all_paths docs)) (Some 8) r refl
     (sym (ap (λ b. or_first (broken_if (not b) 8)
     (broken_if (not (eqb (length bytes) (end + rest_length bytes))) (length bytes))) apart))
@@ -123,8 +123,8 @@ finds bytes docs held text end found b given is =
       text = text;
       given = λ _. subst (λ z. IsTextOf z text) (sym (ap read_of read)) given;
       first =
-        ap (λ x. or_first x (ruled 7 (rule_7 (documents_read bytes) text bytes))) b.six
-        ∙ ap (λ r. ruled 7 (rule_7 r text bytes)) read ∙ ap (λ x. ruled 7 x) (sym is)
+          ap (λ x. or_first x (ruled 7 (rule_7 (documents_read bytes) text bytes))) b.six
+          ∙ ap (λ r. ruled 7 (rule_7 r text bytes)) read ∙ ap (λ x. ruled 7 x) (sym is);
     }
 
 pub held_in : (bytes : List ℕ) (docs held : List PlainNumbered) (end : ℕ)

@@ -128,7 +128,7 @@ length-rest_bytes docs text =
     let d = length-id_index docs in
     let e = length-append (flat_map (to_be_bytes w32) (id_index docs)) text in
     let f = length-append (flat_map owner_bytes owners)
-        (flat_map (to_be_bytes w32) (id_index docs) ++ text) in
+    (flat_map (to_be_bytes w32) (id_index docs) ++ text) in
     omega (arith, a, b, c, d, e, f)
 
 drop-behind : (xs ys : List ℕ) → drop (length xs) (xs ++ ys) ≡ ys
@@ -187,25 +187,27 @@ accepted back docs text may given fits =
     let documents = document_count-headed d p t (written ++ rest) (let h = may.few in omega (arith, h)) in
     let paths = path_count-headed d p t (written ++ rest) (let h = may.many in omega (arith, h)) in
     let texts = text_length-headed d p t (written ++ rest)
-        (omega (arith, fits, long, both, size)) in
+    (omega (arith, fits, long, both, size)) in
     let read : documents_read bytes ≡ reads docs end =
-        ap (λ n. documents_at n bytes 20) documents ∙ back docs may.writable head rest in
+    ap (λ n. documents_at n bytes 20) documents ∙ back docs may.writable head rest in
     let five = none_wrong 0 20 docs (rises_from_one docs may.rise may.numbered) may.numbered in
     let six = counts-sound p end bytes paths
-        (omega (arith, long, both, size, documents, paths, texts)) in
+    (omega (arith, long, both, size, documents, paths, texts)) in
     let front = length-append head written in
     let behind : drop end bytes ≡ rest =
-        ap (λ n. drop n bytes) (let h : end ≡ length (head ++ written) = omega (arith, front) in h)
-        ∙ ap (λ z. drop (length (head ++ written)) z) (sym (append_assoc head written rest))
-        ∙ drop-behind (head ++ written) rest in
-    let held = ap read_of read in
-    (record {
-      text = text;
-      given = λ _. subst (λ z. IsTextOf z text) (sym held) given;
-      first = all_sound (header_broken bytes) (documents_read bytes) docs end text bytes
-          (header-sound d p t (written ++ rest) may.few may.many) read
-          (reading-sound docs end bytes five six) (rest-sound docs end text bytes behind)
-    }, sym held)
+    ap (λ n. drop n bytes) (let h : end ≡ length (head ++ written) = omega (arith, front) in h)
+    ∙ ap (λ z. drop (length (head ++ written)) z) (sym (append_assoc head written rest))
+    ∙ drop-behind (head ++ written) rest in
+    let held = ap read_of read in (
+      record {
+        text = text;
+        given = λ _. subst (λ z. IsTextOf z text) (sym held) given;
+        first = all_sound (header_broken bytes) (documents_read bytes) docs end text bytes
+            (header-sound d p t (written ++ rest) may.few may.many) read
+            (reading-sound docs end bytes five six) (rest-sound docs end text bytes behind);
+      },
+      sym held,
+    )
 
 pub written_is_accepted : DocumentsReadBack → WrittenIsAccepted
 written_is_accepted back docs bytes may w fits =

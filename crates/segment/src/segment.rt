@@ -41,7 +41,7 @@ impl Model for Segment {
     ghost use Rattle.std.specs.Prelude.{List};
     ghost use Rattle.sg_paths.specs.Operations.{PlainNumbered};
     ghost use Rattle.segment.specs.Faults.{Accepts, Refuses};
-ghost use Rattle.segment.specs.Represents.{Represents};
+    ghost use Rattle.segment.specs.Represents.{Represents};
 
     ghost Value = { List PlainNumbered };
 
@@ -103,11 +103,7 @@ impl Segment {
     pub fn write(&self) -> Result<Bytes, AllocError>
         ensures { IfOk result (λ b. IsWritten self.now b.items) }
     {
-        Ok(Bytes::from_vec(written(
-            self.alloc,
-            &self.table,
-            self.text(),
-        )?))
+        Ok(Bytes::from_vec(written(self.alloc, &self.table, self.text())?))
     }
 
     /// Takes over bytes that break no rule, and else says which is broken first, and where. Memory

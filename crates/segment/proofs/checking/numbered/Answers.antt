@@ -19,8 +19,8 @@ pub returns-in-None-clause-ok : goal.returns-in-None-clause-ok
 returns-in-None-clause-ok c = record {
   found = c.requires;
   numbers =
-    ap (λ (ds : List PlainNumbered). wrong_number 20 ds) (sym c.as_slice.ensures.value)
-    ∙ sym c.in-None.ensures
+      ap (λ (ds : List PlainNumbered). wrong_number 20 ds) (sym c.as_slice.ensures.value)
+      ∙ sym c.in-None.ensures;
 }
 
 pub returns-in-Some-clause-err : goal.returns-in-Some-clause-err
