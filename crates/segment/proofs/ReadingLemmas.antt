@@ -32,7 +32,8 @@ rise_after last at (d ∷ ds) h =
   where
     by : (x y : Bool) → nat_lt last d.seq ≡ x
         → (wrong_number_after d.seq (at + length (document_bytes d)) ds ≡ None → RiseFrom d.seq ds)
-        → cond (x && y) (wrong_number_after d.seq (at + length (document_bytes d)) ds) (Some at) ≡ None
+        → cond (x && y) (wrong_number_after d.seq (at + length (document_bytes d)) ds) (Some at)
+            ≡ None
         → (last < d.seq) × RiseFrom d.seq ds
     by true true is f h = (less_of last d.seq is, f h)
     by true false is f h = absurd cc
@@ -44,7 +45,7 @@ numbers_of at [] h = tt
 numbers_of at (d ∷ ds) h = (rise_after 0 at (d ∷ ds) h).1
 
 -- what no broken rule says
-parts_of : (a b c : Option ℕ) → firsts (ruled 1 a ∷ ruled 2 b ∷ ruled 3 c ∷ []) ≡ None
+pub parts_of : (a b c : Option ℕ) → firsts (ruled 1 a ∷ ruled 2 b ∷ ruled 3 c ∷ []) ≡ None
     → (a ≡ None) × (b ≡ None) × (c ≡ None)
 parts_of (Some x) b c h = absurd cc
 parts_of None (Some x) c h = absurd cc
@@ -55,11 +56,11 @@ both_of : (x y : Option ℕ) → or_first x y ≡ None → (x ≡ None) × (y �
 both_of (Some x) y h = absurd cc
 both_of None y h = (refl, h)
 
-not_broken : (b : Bool) (at : ℕ) → broken_if b at ≡ None → b ≡ false
+pub not_broken : (b : Bool) (at : ℕ) → broken_if b at ≡ None → b ≡ false
 not_broken true at h = absurd cc
 not_broken false at h = refl
 
-no_less : (a b : ℕ) → nat_lt a b ≡ false → b ≤ a
+pub no_less : (a b : ℕ) → nat_lt a b ≡ false → b ≤ a
 no_less a b h = grind (arith, nat_tests)
 
 pub whole_header : (bytes : List ℕ) → header_broken bytes ≡ None → 20 ≤ length bytes

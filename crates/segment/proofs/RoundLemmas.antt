@@ -1,6 +1,8 @@
 -- What was written breaks no rule, and its documents are read back.
-use Rattle.std.proofs.Common.{◌≡◌, ◌≤◌, ◌<◌, ◌+◌, ◌*◌, ℕ, suc, Bool, true, false, not, ◌&&◌, cond, eqb}
-use Rattle.std.proofs.Common.{List, [], ◌∷◌, ◌++◌, length, map, drop, Option, Some, None, refl, sym, ap}
+use Rattle.std.proofs.Common.{◌≡◌, ◌≤◌, ◌<◌, ◌+◌, ◌*◌, ℕ, suc, Bool, true, false, not, ◌&&◌, cond}
+use Rattle.std.proofs.Common.{eqb}
+use Rattle.std.proofs.Common.{List, [], ◌∷◌, ◌++◌, length, map, drop, Option, Some, None, refl, sym}
+use Rattle.std.proofs.Common.{ap}
 use Rattle.std.proofs.Common.{◌∙◌, subst, arith, append_assoc, length-append, eq-eqb}
 use Rattle.std.specs.Prelude.{nat_lt, nat_le, bytes_eq}
 use Rattle.std.specs.List.{AllByRecursion, flat_map}
@@ -25,9 +27,11 @@ use Rattle.seg_bytes.specs.DocumentsRead.{documents_at}
 use Rattle.seg_bytes.specs.Numbers.{wrong_number, wrong_number_after}
 use Rattle.seg_bytes.specs.Laws.{DocumentsReadBack}
 use Rattle.segment.specs.Represents.{IsTextOf, RiseFrom, NumbersRise}
-use Rattle.segment.specs.SegmentBytes.{header_bytes, owner_bytes, rest_bytes, segment_bytes, IsWritten}
+use Rattle.segment.specs.SegmentBytes.{header_bytes, owner_bytes, rest_bytes, segment_bytes}
+use Rattle.segment.specs.SegmentBytes.{IsWritten}
 use Rattle.segment.specs.Rules.{document_count, path_count, text_length, rest_length, header_broken}
-use Rattle.segment.specs.Rules.{rule_1, rule_2, rule_3, rule_6, rule_7, documents_read, documents_in}
+use Rattle.segment.specs.Rules.{rule_1, rule_2, rule_3, rule_6, rule_7, documents_read}
+use Rattle.segment.specs.Rules.{documents_in}
 use Rattle.segment.specs.Rules.{read_of, reading_broken, first_six_broken, first_broken, Finds}
 use Rattle.segment.specs.Faults.{Accepts}
 use Rattle.segment.specs.Laws.{FindsOne, IsNumbered, MayBeHeld, WrittenIsAccepted}
@@ -184,7 +188,8 @@ accepted back docs text may given fits =
     let long = length-headed d p t (written ++ rest) in
     let both = length-append written rest in
     let size = length-rest_bytes docs text in
-    let documents = document_count-headed d p t (written ++ rest) (let h = may.few in omega (arith, h)) in
+    let documents = document_count-headed d p t (written ++ rest)
+        (let h = may.few in omega (arith, h)) in
     let paths = path_count-headed d p t (written ++ rest) (let h = may.many in omega (arith, h)) in
     let texts = text_length-headed d p t (written ++ rest)
     (omega (arith, fits, long, both, size)) in
