@@ -1,12 +1,10 @@
 -- Paths that rise are what a builder takes one after another, and each begins with a context.
-use Rattle.std.proofs.Common.{◌≡◌, ◌≤◌, ◌<◌, ◌+◌, ℕ, zero, suc, Bool, true, false, cond, ◌⊎◌}
+use Rattle.std.proofs.Common.{◌≡◌, ◌≤◌, ◌<◌, ◌+◌, ℕ, zero, suc, true, false, cond, ◌⊎◌}
 use Rattle.std.proofs.Common.{inl, inr, List, [], ◌∷◌, ◌++◌, length, map, take, get_or, refl, sym}
 use Rattle.std.proofs.Common.{ap, ◌∙◌, subst, arith, append_assoc, eqb, ltb, length-append}
 use Rattle.std.specs.Prelude.{IfSome, is_none, nat_le}
 use Rattle.std.specs.Int.{w32, to_be_bytes}
 use Rattle.std.specs.List.{All, AllByRecursion, list_all, position_from}
-use Rattle.std.specs.Cmp.Lexicographic.{slice_cmp}
-use Rattle.std.specs.Ordering.{nat_cmp}
 use Rattle.std.proofs.lemmas.Bool.{and_parts}
 use Rattle.std.proofs.lemmas.Bool.Decides.{nat_tests}
 use Rattle.std.proofs.lemmas.List.Elements.{recursion_from_All}
@@ -15,7 +13,6 @@ use Rattle.sg_base.specs.Contexts.{is_context}
 use Rattle.sg_base.specs.Keys.{is_key, is_key_byte}
 use Rattle.sg_base.specs.ByteStrings.{is_less}
 use Rattle.sg_base.proofs.ByteStringLemmas.{Byte, same, less, more, byte, slice-less}
-use Rattle.sg_paths.specs.Operations.{PlainNumbered}
 use Rattle.sg_paths.specs.AllPaths.{FullPath, head_bytes, path_bytes}
 use Rattle.sg_paths.specs.PathLaws.{IsLegal, IsAhead, RisesFrom, Rises}
 use Rattle.sg_paths.proofs.RiseLemmas.{legal_clean}

@@ -1,7 +1,7 @@
 -- Accepted bytes are those that are written of their documents.
-use Rattle.std.proofs.Common.{◌≡◌, ◌≤◌, ◌+◌, ◌-◌, ◌*◌, ℕ, zero, suc, Bool, true, false, not, cond, eqb}
-use Rattle.std.proofs.Common.{List, [], ◌∷◌, ◌++◌, length, map, take, drop, Option, Some, None}
-use Rattle.std.proofs.Common.{refl, sym, ap, ◌∙◌, subst, arith, zero-add, eqb-true, ltb}
+use Rattle.std.proofs.Common.{◌≡◌, ◌≤◌, ◌+◌, ℕ, suc, Bool, true, false, not, cond, eqb}
+use Rattle.std.proofs.Common.{List, [], ◌∷◌, ◌++◌, length, take, drop, Option, Some, None}
+use Rattle.std.proofs.Common.{refl, sym, ap, ◌∙◌, subst, arith, eqb-true}
 use Rattle.std.proofs.Common.{length-drop, length-take-le}
 use Rattle.std.proofs.lemmas.List.{take-append-drop, drop-drop}
 use Rattle.std.specs.Prelude.{nat_lt, bytes_eq, ◌==◌}
@@ -10,23 +10,20 @@ use Rattle.std.specs.Cmp.Lexicographic.{bytes_decides}
 use Rattle.std.proofs.lemmas.Nat.{be_bytes_4, be_bytes_8}
 use Rattle.sg_paths.specs.Operations.{PlainNumbered}
 use Rattle.sg_paths.specs.AllPaths.{all_paths}
-use Rattle.fst_code.specs.Rules.{or_first, firsts, broken_if, common, ruled}
+use Rattle.fst_code.specs.Rules.{or_first, broken_if, common, ruled}
 use Rattle.fst_code.specs.Bytes.{number_at}
 use Rattle.fst_code.specs.Shapes.{IsBytes}
 use Rattle.fst_code.proofs.BytesLemmas.{bytes_take, bytes_drop}
 use Rattle.seg_bytes.specs.Fields.{Reading, reads, broken}
 use Rattle.seg_bytes.specs.DocumentBytes.{documents_bytes}
-use Rattle.seg_bytes.specs.DocumentsRead.{documents_at}
 use Rattle.seg_bytes.specs.Numbers.{wrong_number}
 use Rattle.seg_bytes.specs.Laws.{OnlyWrittenIsRead}
 use Rattle.segment.specs.Represents.{IsTextOf}
 use Rattle.segment.specs.SegmentBytes.{segment_name, header_bytes, rest_bytes, segment_bytes}
-use Rattle.segment.specs.SegmentBytes.{IsWritten}
 use Rattle.segment.specs.Rules.{document_count, path_count, text_length, rest_length}
 use Rattle.segment.specs.Rules.{header_broken, rule_1, rule_2, rule_3, rule_6, rule_7}
-use Rattle.segment.specs.Rules.{documents_read, documents_in, read_of, reading_broken}
+use Rattle.segment.specs.Rules.{documents_read, read_of, reading_broken}
 use Rattle.segment.specs.Rules.{first_six_broken}
-use Rattle.segment.specs.Faults.{Accepts}
 use Rattle.segment.specs.Laws.{AcceptedIsWritten}
 use Rattle.segment.proofs.ReadingLemmas.{whole_header, parts_of, not_broken, no_less}
 use Rattle.segment.proofs.RoundLemmas.{length-rest_bytes}
@@ -92,7 +89,7 @@ header_is bytes fits sound =
     let long = whole_header bytes sound in
     let all = parts_of (rule_1 bytes) (rule_2 bytes) (rule_3 bytes) sound in
     let most = no_less (common segment_name bytes) 4
-        (not_broken (nat_lt (common segment_name bytes) 4) (common segment_name bytes) all.1) in
+    (not_broken (nat_lt (common segment_name bytes) 4) (common segment_name bytes) all.1) in
     let name = named segment_name bytes most in
     let d = four_at 4 bytes fits (omega (arith, long)) in
     let p = four_at 8 bytes fits (omega (arith, long)) in
@@ -115,9 +112,9 @@ whole_is : (docs : List PlainNumbered) (text bytes : List ℕ) (d p t end : ℕ)
 whole_is docs text bytes d p t end ds ps ts stop head stands rest =
     let written = documents_bytes docs in
     let more : drop 20 bytes ≡ written ++ rest_bytes docs text =
-        parted (length written) 20 end bytes (sym stop)
-        ∙ ap (λ (z : List ℕ). z ++ drop end bytes) stands
-        ∙ ap (λ (z : List ℕ). written ++ z) rest in
+    parted (length written) 20 end bytes (sym stop)
+    ∙ ap (λ (z : List ℕ). z ++ drop end bytes) stands
+    ∙ ap (λ (z : List ℕ). written ++ z) rest in
     head ∙ ap (λ (z : List ℕ). header_bytes d p t ++ z) more
     ∙ ap (λ n. header_bytes n p t ++ (written ++ rest_bytes docs text)) (sym ds)
     ∙ ap (λ n. header_bytes (length docs) n t ++ (written ++ rest_bytes docs text)) (sym ps)
@@ -132,22 +129,22 @@ read_whole only bytes text docs end fits sound read six seven =
     let o = only (document_count bytes) bytes 20 docs end fits read in
     let p = length (all_paths docs) in
     let both = both_none (broken_if (not (path_count bytes == p)) 8)
-        (broken_if (not (length bytes == end + rest_length bytes)) (length bytes)) six in
+    (broken_if (not (length bytes == end + rest_length bytes)) (length bytes)) six in
     let paths : path_count bytes ≡ p =
-        eqb-true (path_count bytes) p (not_not (eqb (path_count bytes) p) 8 both.0) in
+    eqb-true (path_count bytes) p (not_not (eqb (path_count bytes) p) 8 both.0) in
     let long : length bytes ≡ end + rest_length bytes =
-        eqb-true (length bytes) (end + rest_length bytes)
-        (not_not (eqb (length bytes) (end + rest_length bytes)) (length bytes) both.1) in
+    eqb-true (length bytes) (end + rest_length bytes)
+    (not_not (eqb (length bytes) (end + rest_length bytes)) (length bytes) both.1) in
     let rest : rest_bytes docs text ≡ drop end bytes =
-        (bytes_decides (rest_bytes docs text) (drop end bytes)).0
-        (not_not (bytes_eq (rest_bytes docs text) (drop end bytes))
-        (end + common (rest_bytes docs text) (drop end bytes)) seven) in
+    (bytes_decides (rest_bytes docs text) (drop end bytes)).0
+    (not_not (bytes_eq (rest_bytes docs text) (drop end bytes))
+    (end + common (rest_bytes docs text) (drop end bytes)) seven) in
     let size = length-rest_bytes docs text in
     let same = ap (λ (z : List ℕ). length z) rest in
     let left = length-drop end bytes in
     let count = o.0 in
     let texts : length text ≡ text_length bytes =
-        omega (arith, paths, long, size, same, left, count) in
+    omega (arith, paths, long, size, same, left, count) in
     whole_is docs text bytes (document_count bytes) (path_count bytes) (text_length bytes) end
     o.0 (sym paths) texts o.2 (header_is bytes fits sound) o.1 (sym rest)
 
@@ -158,7 +155,7 @@ by_reading : OnlyWrittenIsRead → (read : Reading (List PlainNumbered)) (bytes 
 by_reading only (broken at) bytes text fits sound is late seven = absurd cc
 by_reading only (reads docs end) bytes text fits sound is late seven =
     let both = none_both (ruled 5 (wrong_number 20 docs))
-        (ruled 6 (rule_6 (length (all_paths docs)) end bytes)) late in
+    (ruled 6 (rule_6 (length (all_paths docs)) end bytes)) late in
     read_whole only bytes text docs end fits sound is
     (unruled 6 (rule_6 (length (all_paths docs)) end bytes) both.1) seven
 
@@ -170,9 +167,9 @@ accepted_is_written only docs bytes fits a =
     let both = none_both (first_six_broken bytes) late found.first in
     let six = none_both (header_broken bytes) (reading_broken read bytes) both.0 in
     let whole = by_reading only read bytes found.text fits six.0 refl six.1
-        (unruled 7 (rule_7 read found.text bytes) both.1) in
+    (unruled 7 (rule_7 read found.text bytes) both.1) in
     record {
       text = found.text;
       given = subst (λ z. IsTextOf z found.text) (sym a.1) (found.given both.0);
-      whole = whole ∙ ap (λ z. segment_bytes z found.text) (sym a.1)
+      whole = whole ∙ ap (λ z. segment_bytes z found.text) (sym a.1);
     }

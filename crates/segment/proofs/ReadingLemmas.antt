@@ -1,5 +1,5 @@
 -- What is known of documents that were read.
-use Rattle.std.proofs.Common.{◌≡◌, ◌≤◌, ◌<◌, ◌+◌, ℕ, zero, suc, Bool, true, false, ◌&&◌, cond}
+use Rattle.std.proofs.Common.{◌≡◌, ◌≤◌, ◌<◌, ◌+◌, ℕ, Bool, true, false, ◌&&◌, cond}
 use Rattle.std.proofs.Common.{List, [], ◌∷◌, length, Option, Some, None, refl, sym, ap, ◌∙◌, arith}
 use Rattle.std.proofs.Common.{not, eqb, subst}
 use Rattle.std.specs.Prelude.{nat_lt, nat_le}
@@ -33,7 +33,7 @@ rise_after last at (d ∷ ds) h =
     by : (x y : Bool) → nat_lt last d.seq ≡ x
         → (wrong_number_after d.seq (at + length (document_bytes d)) ds ≡ None → RiseFrom d.seq ds)
         → cond (x && y) (wrong_number_after d.seq (at + length (document_bytes d)) ds) (Some at)
-            ≡ None
+        ≡ None
         → (last < d.seq) × RiseFrom d.seq ds
     by true true is f h = (less_of last d.seq is, f h)
     by true false is f h = absurd cc

@@ -1,12 +1,12 @@
 -- What was written breaks no rule, and its documents are read back.
-use Rattle.std.proofs.Common.{◌≡◌, ◌≤◌, ◌<◌, ◌+◌, ◌*◌, ℕ, suc, Bool, true, false, not, ◌&&◌, cond}
+use Rattle.std.proofs.Common.{◌≡◌, ◌≤◌, ◌<◌, ◌+◌, ◌*◌, ℕ, suc, true, not, ◌&&◌, cond}
 use Rattle.std.proofs.Common.{eqb}
 use Rattle.std.proofs.Common.{List, [], ◌∷◌, ◌++◌, length, map, drop, Option, Some, None, refl, sym}
 use Rattle.std.proofs.Common.{ap}
 use Rattle.std.proofs.Common.{◌∙◌, subst, arith, append_assoc, length-append, eq-eqb}
-use Rattle.std.specs.Prelude.{nat_lt, nat_le, bytes_eq}
+use Rattle.std.specs.Prelude.{nat_lt, nat_le}
 use Rattle.std.specs.List.{AllByRecursion, flat_map}
-use Rattle.std.specs.Int.{w32, w64, to_be_bytes}
+use Rattle.std.specs.Int.{w32, to_be_bytes}
 use Rattle.std.specs.Cmp.Lexicographic.{bytes_decides}
 use Rattle.std.proofs.lemmas.Bool.{le-ltb}
 use Rattle.std.proofs.lemmas.Bool.Decides.{nat_tests}
@@ -21,7 +21,7 @@ use Rattle.fst_code.proofs.OneTextLemmas.{one_text}
 use Rattle.seg_table.specs.declared.owner.Owner.{Owner}
 use Rattle.seg_table.specs.Owners.{owner_of}
 use Rattle.seg_table.specs.Ids.{IdPlace, id_cmp, id_index, placed_from}
-use Rattle.seg_bytes.specs.Fields.{Reading, reads, broken}
+use Rattle.seg_bytes.specs.Fields.{Reading, reads}
 use Rattle.seg_bytes.specs.DocumentBytes.{document_bytes, documents_bytes}
 use Rattle.seg_bytes.specs.DocumentsRead.{documents_at}
 use Rattle.seg_bytes.specs.Numbers.{wrong_number, wrong_number_after}
@@ -32,7 +32,7 @@ use Rattle.segment.specs.SegmentBytes.{IsWritten}
 use Rattle.segment.specs.Rules.{document_count, path_count, text_length, rest_length, header_broken}
 use Rattle.segment.specs.Rules.{rule_1, rule_2, rule_3, rule_6, rule_7, documents_read}
 use Rattle.segment.specs.Rules.{documents_in}
-use Rattle.segment.specs.Rules.{read_of, reading_broken, first_six_broken, first_broken, Finds}
+use Rattle.segment.specs.Rules.{read_of, reading_broken, first_six_broken, Finds}
 use Rattle.segment.specs.Faults.{Accepts}
 use Rattle.segment.specs.Laws.{FindsOne, IsNumbered, MayBeHeld, WrittenIsAccepted}
 
@@ -189,7 +189,7 @@ accepted back docs text may given fits =
     let both = length-append written rest in
     let size = length-rest_bytes docs text in
     let documents = document_count-headed d p t (written ++ rest)
-        (let h = may.few in omega (arith, h)) in
+    (let h = may.few in omega (arith, h)) in
     let paths = path_count-headed d p t (written ++ rest) (let h = may.many in omega (arith, h)) in
     let texts = text_length-headed d p t (written ++ rest)
     (omega (arith, fits, long, both, size)) in
