@@ -2,9 +2,9 @@ ghost use Rattle.std.specs.Prelude.{◌<◌, length};
 
 use crate::making::bytes_of;
 use fst_code::CodeError;
+use segment::Segment;
 use sg_base::{Bytes, Key, Text};
 use sg_paths::{Document, MOST_SEGMENT_PATHS, Numbered, Suggestion, paths_at_most};
-use segment::Segment;
 use std::alloc::Global;
 use std::test::Fail;
 
