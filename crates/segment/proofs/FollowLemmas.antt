@@ -1,12 +1,10 @@
 -- Paths that rise are what a builder takes one after another, and each begins with a context.
-use Rattle.std.proofs.Common.{◌≡◌, ◌≤◌, ◌<◌, ◌+◌, ℕ, zero, suc, Bool, true, false, cond, ◌⊎◌}
+use Rattle.std.proofs.Common.{◌≡◌, ◌≤◌, ◌<◌, ◌+◌, ℕ, zero, suc, true, false, cond, ◌⊎◌}
 use Rattle.std.proofs.Common.{inl, inr, List, [], ◌∷◌, ◌++◌, length, map, take, get_or, refl, sym}
 use Rattle.std.proofs.Common.{ap, ◌∙◌, subst, arith, append_assoc, eqb, ltb, length-append}
 use Rattle.std.specs.Prelude.{IfSome, is_none, nat_le}
 use Rattle.std.specs.Int.{w32, to_be_bytes}
 use Rattle.std.specs.List.{All, AllByRecursion, list_all, position_from}
-use Rattle.std.specs.Cmp.Lexicographic.{slice_cmp}
-use Rattle.std.specs.Ordering.{nat_cmp}
 use Rattle.std.proofs.lemmas.Bool.{and_parts}
 use Rattle.std.proofs.lemmas.Bool.Decides.{nat_tests}
 use Rattle.std.proofs.lemmas.List.Elements.{recursion_from_All}
@@ -15,7 +13,6 @@ use Rattle.sg_base.specs.Contexts.{is_context}
 use Rattle.sg_base.specs.Keys.{is_key, is_key_byte}
 use Rattle.sg_base.specs.ByteStrings.{is_less}
 use Rattle.sg_base.proofs.ByteStringLemmas.{Byte, same, less, more, byte, slice-less}
-use Rattle.sg_paths.specs.Operations.{PlainNumbered}
 use Rattle.sg_paths.specs.AllPaths.{FullPath, head_bytes, path_bytes}
 use Rattle.sg_paths.specs.PathLaws.{IsLegal, IsAhead, RisesFrom, Rises}
 use Rattle.sg_paths.proofs.RiseLemmas.{legal_clean}
@@ -58,7 +55,7 @@ ahead_goes xs ys h = goes xs ys (λ z. sym (slice-less (xs ++ z) ys) ∙ h z)
 at_from : (x : Tail) (ps : List FullPath) (i : ℕ) (d : FullPath)
     → RisesFrom x.0 (map path_bytes ps) → i < length ps
     → IfSome (last_of (x ∷ map path_tail (take i ps)))
-        (λ t. GoesOn t.0 (path_bytes (get_or ps i d)))
+    (λ t. GoesOn t.0 (path_bytes (get_or ps i d)))
 at_from x [] i d f h = absurd (omega (arith, h))
 at_from x (p ∷ ps) zero d f h = ahead_goes x.0 (path_bytes p) f.0
 at_from x (p ∷ ps) (suc i) d f h = at_from (path_tail p) ps i d f.1 (omega (arith, h))
@@ -93,7 +90,7 @@ pub path_length : (p : FullPath) → IsLegal p.entry
 path_length p l =
     let a = length_head p.entry.context p.entry.key in
     let b : length (path_bytes p) ≡ length (head_bytes p.entry) + 4 =
-        length-append (head_bytes p.entry) (to_be_bytes w32 p.n) in
+    length-append (head_bytes p.entry) (to_be_bytes w32 p.n) in
     let m : length p.entry.context ≤ 63 = context_fits p.entry.context l.context in
     let n : length p.entry.key ≤ 255 = key_fits p.entry.key l.key in
     (omega (arith, a, b), omega (arith, a, b, m, n))
@@ -104,14 +101,14 @@ has_context p l =
     let c = p.entry.context in
     let rest : List ℕ = (p.entry.key ++ 0 ∷ []) ++ to_be_bytes w32 p.n in
     let whole : path_bytes p ≡ c ++ 29 ∷ rest =
-        append_assoc c (29 ∷ (p.entry.key ++ 0 ∷ [])) (to_be_bytes w32 p.n) in
+    append_assoc c (29 ∷ (p.entry.key ++ 0 ∷ [])) (to_be_bytes w32 p.n) in
     let is : context_of (path_bytes p) ≡ c =
-        ap context_of whole ∙ context_at c rest (legal_clean p.entry l).0 in
+    ap context_of whole ∙ context_at c rest (legal_clean p.entry l).0 in
     record {
       rest = rest;
       is = whole ∙ ap (λ z. z ++ 29 ∷ rest) (sym is);
       fits = subst (λ (z : List ℕ). length z ≤ 63) (sym is)
-          (context_fits c l.context)
+          (context_fits c l.context);
     }
 
 have_contexts : (ps : List FullPath) → AllByRecursion (λ p. IsLegal p.entry) ps

@@ -2,3 +2,4 @@ pub mod FollowLemmas
 pub mod NumberLemmas
 pub mod ReadingLemmas
 pub mod RoundLemmas
+pub mod OnlyLemmas

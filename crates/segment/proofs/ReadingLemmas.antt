@@ -1,5 +1,5 @@
 -- What is known of documents that were read.
-use Rattle.std.proofs.Common.{◌≡◌, ◌≤◌, ◌<◌, ◌+◌, ℕ, zero, suc, Bool, true, false, ◌&&◌, cond}
+use Rattle.std.proofs.Common.{◌≡◌, ◌≤◌, ◌<◌, ◌+◌, ℕ, Bool, true, false, ◌&&◌, cond}
 use Rattle.std.proofs.Common.{List, [], ◌∷◌, length, Option, Some, None, refl, sym, ap, ◌∙◌, arith}
 use Rattle.std.proofs.Common.{not, eqb, subst}
 use Rattle.std.specs.Prelude.{nat_lt, nat_le}
@@ -32,7 +32,8 @@ rise_after last at (d ∷ ds) h =
   where
     by : (x y : Bool) → nat_lt last d.seq ≡ x
         → (wrong_number_after d.seq (at + length (document_bytes d)) ds ≡ None → RiseFrom d.seq ds)
-        → cond (x && y) (wrong_number_after d.seq (at + length (document_bytes d)) ds) (Some at) ≡ None
+        → cond (x && y) (wrong_number_after d.seq (at + length (document_bytes d)) ds) (Some at)
+        ≡ None
         → (last < d.seq) × RiseFrom d.seq ds
     by true true is f h = (less_of last d.seq is, f h)
     by true false is f h = absurd cc
@@ -44,7 +45,7 @@ numbers_of at [] h = tt
 numbers_of at (d ∷ ds) h = (rise_after 0 at (d ∷ ds) h).1
 
 -- what no broken rule says
-parts_of : (a b c : Option ℕ) → firsts (ruled 1 a ∷ ruled 2 b ∷ ruled 3 c ∷ []) ≡ None
+pub parts_of : (a b c : Option ℕ) → firsts (ruled 1 a ∷ ruled 2 b ∷ ruled 3 c ∷ []) ≡ None
     → (a ≡ None) × (b ≡ None) × (c ≡ None)
 parts_of (Some x) b c h = absurd cc
 parts_of None (Some x) c h = absurd cc
@@ -55,11 +56,11 @@ both_of : (x y : Option ℕ) → or_first x y ≡ None → (x ≡ None) × (y �
 both_of (Some x) y h = absurd cc
 both_of None y h = (refl, h)
 
-not_broken : (b : Bool) (at : ℕ) → broken_if b at ≡ None → b ≡ false
+pub not_broken : (b : Bool) (at : ℕ) → broken_if b at ≡ None → b ≡ false
 not_broken true at h = absurd cc
 not_broken false at h = refl
 
-no_less : (a b : ℕ) → nat_lt a b ≡ false → b ≤ a
+pub no_less : (a b : ℕ) → nat_lt a b ≡ false → b ≤ a
 no_less a b h = grind (arith, nat_tests)
 
 pub whole_header : (bytes : List ℕ) → header_broken bytes ≡ None → 20 ≤ length bytes
@@ -71,7 +72,7 @@ few_paths : (bytes : List ℕ) → header_broken bytes ≡ None → path_count b
 few_paths bytes h =
     let all = parts_of (rule_1 bytes) (rule_2 bytes) (rule_3 bytes) h in
     let both = both_of (broken_if (nat_lt 1048576 (document_count bytes)) 4)
-        (broken_if (nat_lt 4194304 (path_count bytes)) 8) all.2 in
+    (broken_if (nat_lt 4194304 (path_count bytes)) 8) all.2 in
     no_less 4194304 (path_count bytes) (not_broken (nat_lt 4194304 (path_count bytes)) 8 both.1)
 
 pub few_documents : (bytes : List ℕ) → header_broken bytes ≡ None
@@ -79,7 +80,7 @@ pub few_documents : (bytes : List ℕ) → header_broken bytes ≡ None
 few_documents bytes h =
     let all = parts_of (rule_1 bytes) (rule_2 bytes) (rule_3 bytes) h in
     let both = both_of (broken_if (nat_lt 1048576 (document_count bytes)) 4)
-        (broken_if (nat_lt 4194304 (path_count bytes)) 8) all.2 in
+    (broken_if (nat_lt 4194304 (path_count bytes)) 8) all.2 in
     no_less 1048576 (document_count bytes)
     (not_broken (nat_lt 1048576 (document_count bytes)) 4 both.0)
 
@@ -108,7 +109,7 @@ six_exceeds bytes docs end r h =
     let same = length-all_paths docs in
     let few = few_paths bytes r.found.header in
     let apart = ne_eqb (path_count bytes) (length (all_paths docs))
-        (λ e. omega (arith, many, same, few, e)) in
+    (λ e. omega (arith, many, same, few, e)) in
     six_is bytes docs end (length (all_paths docs)) (Some 8) r refl
     (sym (ap (λ b. or_first (broken_if (not b) 8)
     (broken_if (not (eqb (length bytes) (end + rest_length bytes))) (length bytes))) apart))
@@ -123,8 +124,8 @@ finds bytes docs held text end found b given is =
       text = text;
       given = λ _. subst (λ z. IsTextOf z text) (sym (ap read_of read)) given;
       first =
-        ap (λ x. or_first x (ruled 7 (rule_7 (documents_read bytes) text bytes))) b.six
-        ∙ ap (λ r. ruled 7 (rule_7 r text bytes)) read ∙ ap (λ x. ruled 7 x) (sym is)
+          ap (λ x. or_first x (ruled 7 (rule_7 (documents_read bytes) text bytes))) b.six
+          ∙ ap (λ r. ruled 7 (rule_7 r text bytes)) read ∙ ap (λ x. ruled 7 x) (sym is);
     }
 
 pub held_in : (bytes : List ℕ) (docs held : List PlainNumbered) (end : ℕ)

@@ -1,10 +1,12 @@
 -- What was written breaks no rule, and its documents are read back.
-use Rattle.std.proofs.Common.{◌≡◌, ◌≤◌, ◌<◌, ◌+◌, ◌*◌, ℕ, suc, Bool, true, false, not, ◌&&◌, cond, eqb}
-use Rattle.std.proofs.Common.{List, [], ◌∷◌, ◌++◌, length, map, drop, Option, Some, None, refl, sym, ap}
+use Rattle.std.proofs.Common.{◌≡◌, ◌≤◌, ◌<◌, ◌+◌, ◌*◌, ℕ, suc, true, not, ◌&&◌, cond}
+use Rattle.std.proofs.Common.{eqb}
+use Rattle.std.proofs.Common.{List, [], ◌∷◌, ◌++◌, length, map, drop, Option, Some, None, refl, sym}
+use Rattle.std.proofs.Common.{ap}
 use Rattle.std.proofs.Common.{◌∙◌, subst, arith, append_assoc, length-append, eq-eqb}
-use Rattle.std.specs.Prelude.{nat_lt, nat_le, bytes_eq}
+use Rattle.std.specs.Prelude.{nat_lt, nat_le}
 use Rattle.std.specs.List.{AllByRecursion, flat_map}
-use Rattle.std.specs.Int.{w32, w64, to_be_bytes}
+use Rattle.std.specs.Int.{w32, to_be_bytes}
 use Rattle.std.specs.Cmp.Lexicographic.{bytes_decides}
 use Rattle.std.proofs.lemmas.Bool.{le-ltb}
 use Rattle.std.proofs.lemmas.Bool.Decides.{nat_tests}
@@ -19,16 +21,18 @@ use Rattle.fst_code.proofs.OneTextLemmas.{one_text}
 use Rattle.seg_table.specs.declared.owner.Owner.{Owner}
 use Rattle.seg_table.specs.Owners.{owner_of}
 use Rattle.seg_table.specs.Ids.{IdPlace, id_cmp, id_index, placed_from}
-use Rattle.seg_bytes.specs.Fields.{Reading, reads, broken}
+use Rattle.seg_bytes.specs.Fields.{Reading, reads}
 use Rattle.seg_bytes.specs.DocumentBytes.{document_bytes, documents_bytes}
 use Rattle.seg_bytes.specs.DocumentsRead.{documents_at}
 use Rattle.seg_bytes.specs.Numbers.{wrong_number, wrong_number_after}
 use Rattle.seg_bytes.specs.Laws.{DocumentsReadBack}
 use Rattle.segment.specs.Represents.{IsTextOf, RiseFrom, NumbersRise}
-use Rattle.segment.specs.SegmentBytes.{header_bytes, owner_bytes, rest_bytes, segment_bytes, IsWritten}
+use Rattle.segment.specs.SegmentBytes.{header_bytes, owner_bytes, rest_bytes, segment_bytes}
+use Rattle.segment.specs.SegmentBytes.{IsWritten}
 use Rattle.segment.specs.Rules.{document_count, path_count, text_length, rest_length, header_broken}
-use Rattle.segment.specs.Rules.{rule_1, rule_2, rule_3, rule_6, rule_7, documents_read, documents_in}
-use Rattle.segment.specs.Rules.{read_of, reading_broken, first_six_broken, first_broken, Finds}
+use Rattle.segment.specs.Rules.{rule_1, rule_2, rule_3, rule_6, rule_7, documents_read}
+use Rattle.segment.specs.Rules.{documents_in}
+use Rattle.segment.specs.Rules.{read_of, reading_broken, first_six_broken, Finds}
 use Rattle.segment.specs.Faults.{Accepts}
 use Rattle.segment.specs.Laws.{FindsOne, IsNumbered, MayBeHeld, WrittenIsAccepted}
 
@@ -128,7 +132,7 @@ length-rest_bytes docs text =
     let d = length-id_index docs in
     let e = length-append (flat_map (to_be_bytes w32) (id_index docs)) text in
     let f = length-append (flat_map owner_bytes owners)
-        (flat_map (to_be_bytes w32) (id_index docs) ++ text) in
+    (flat_map (to_be_bytes w32) (id_index docs) ++ text) in
     omega (arith, a, b, c, d, e, f)
 
 drop-behind : (xs ys : List ℕ) → drop (length xs) (xs ++ ys) ≡ ys
@@ -184,28 +188,31 @@ accepted back docs text may given fits =
     let long = length-headed d p t (written ++ rest) in
     let both = length-append written rest in
     let size = length-rest_bytes docs text in
-    let documents = document_count-headed d p t (written ++ rest) (let h = may.few in omega (arith, h)) in
+    let documents = document_count-headed d p t (written ++ rest)
+    (let h = may.few in omega (arith, h)) in
     let paths = path_count-headed d p t (written ++ rest) (let h = may.many in omega (arith, h)) in
     let texts = text_length-headed d p t (written ++ rest)
-        (omega (arith, fits, long, both, size)) in
+    (omega (arith, fits, long, both, size)) in
     let read : documents_read bytes ≡ reads docs end =
-        ap (λ n. documents_at n bytes 20) documents ∙ back docs may.writable head rest in
+    ap (λ n. documents_at n bytes 20) documents ∙ back docs may.writable head rest in
     let five = none_wrong 0 20 docs (rises_from_one docs may.rise may.numbered) may.numbered in
     let six = counts-sound p end bytes paths
-        (omega (arith, long, both, size, documents, paths, texts)) in
+    (omega (arith, long, both, size, documents, paths, texts)) in
     let front = length-append head written in
     let behind : drop end bytes ≡ rest =
-        ap (λ n. drop n bytes) (let h : end ≡ length (head ++ written) = omega (arith, front) in h)
-        ∙ ap (λ z. drop (length (head ++ written)) z) (sym (append_assoc head written rest))
-        ∙ drop-behind (head ++ written) rest in
-    let held = ap read_of read in
-    (record {
-      text = text;
-      given = λ _. subst (λ z. IsTextOf z text) (sym held) given;
-      first = all_sound (header_broken bytes) (documents_read bytes) docs end text bytes
-          (header-sound d p t (written ++ rest) may.few may.many) read
-          (reading-sound docs end bytes five six) (rest-sound docs end text bytes behind)
-    }, sym held)
+    ap (λ n. drop n bytes) (let h : end ≡ length (head ++ written) = omega (arith, front) in h)
+    ∙ ap (λ z. drop (length (head ++ written)) z) (sym (append_assoc head written rest))
+    ∙ drop-behind (head ++ written) rest in
+    let held = ap read_of read in (
+      record {
+        text = text;
+        given = λ _. subst (λ z. IsTextOf z text) (sym held) given;
+        first = all_sound (header_broken bytes) (documents_read bytes) docs end text bytes
+            (header-sound d p t (written ++ rest) may.few may.many) read
+            (reading-sound docs end bytes five six) (rest-sound docs end text bytes behind);
+      },
+      sym held,
+    )
 
 pub written_is_accepted : DocumentsReadBack → WrittenIsAccepted
 written_is_accepted back docs bytes may w fits =

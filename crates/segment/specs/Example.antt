@@ -1,7 +1,6 @@
 -- A segment of one document as bytes. Source: this project's own format.
 use Rattle.std.specs.Prelude.{◌≡◌, ℕ, List, [], ◌∷◌, ◌++◌, set, Some, None}
 use Rattle.seg_bytes.specs.Example.{example_document, example_bytes}
-use Rattle.sg_paths.specs.Operations.{PlainNumbered}
 use Rattle.segment.specs.Represents.{IsTextOf}
 use Rattle.segment.specs.SegmentBytes.{segment_bytes}
 use Rattle.segment.specs.Rules.{first_broken, documents_in}

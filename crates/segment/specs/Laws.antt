@@ -5,6 +5,7 @@ use Rattle.sg_paths.specs.declared.limits.TheConstants.{MOST_SEGMENT_DOCUMENTS}
 use Rattle.sg_paths.specs.declared.limits.TheConstants.{MOST_SEGMENT_PATHS}
 use Rattle.sg_paths.specs.Operations.{PlainNumbered}
 use Rattle.sg_paths.specs.AllPaths.{all_paths}
+use Rattle.fst_code.specs.Shapes.{IsBytes}
 use Rattle.seg_bytes.specs.declared.limits.TheConstants.{MOST_SEQ}
 use Rattle.seg_bytes.specs.Laws.{IsWritable}
 use Rattle.segment.specs.Represents.{NumbersRise}
@@ -35,3 +36,9 @@ abbrev pub WrittenIsAccepted : Type 0
 WrittenIsAccepted =
     (docs : List PlainNumbered) (bytes : List ℕ) → MayBeHeld docs → IsWritten docs bytes
     → length bytes < 2 ^ 64 → Accepts bytes docs
+
+-- accepted bytes are those that are written of their documents
+abbrev pub AcceptedIsWritten : Type 0
+AcceptedIsWritten =
+    (docs : List PlainNumbered) (bytes : List ℕ) → IsBytes bytes → Accepts bytes docs
+    → IsWritten docs bytes

@@ -1,3 +1,4 @@
+pub mod Limits
 pub mod Represents
 pub mod SegmentBytes
 pub mod Rules

@@ -1,6 +1,6 @@
 -- The rules of a segment's bytes, in their order: which is broken first, and where. Each rule is
 -- the offset where it is broken, if it is. Source: this project's own format.
-use Rattle.std.specs.Prelude.{◌≡◌, ℕ, ◌+◌, ◌*◌, Bool, not, ◌==◌, nat_lt, bytes_eq, drop, length}
+use Rattle.std.specs.Prelude.{◌≡◌, ℕ, ◌+◌, ◌*◌, not, ◌==◌, nat_lt, bytes_eq, drop, length}
 use Rattle.std.specs.Prelude.{List, [], ◌∷◌, Option, Some, None}
 use Rattle.std.specs.Int.{w32, w64}
 use Rattle.sg_paths.specs.declared.limits.TheConstants.{MOST_SEGMENT_DOCUMENTS}

@@ -59,12 +59,7 @@ fn documents_of(alloc: Global, bytes: &[u8]) -> Result<DocumentsRead, CodeError>
 }
 
 /// The segment of the documents, where the sixth rule holds too.
-fn built(
-    alloc: Global,
-    bytes: &[u8],
-    docs: Vec<Numbered>,
-    end: usize,
-) -> Result<Segment, CodeError>
+fn built(alloc: Global, bytes: &[u8], docs: Vec<Numbered>, end: usize) -> Result<Segment, CodeError>
     requires { IsRead bytes.now docs.items end }
     ensures ok { IfOk result (λ s. IsBuilt bytes.now docs.items end s) }
     ensures err { IfErr result (RefusesEarly bytes.now) }

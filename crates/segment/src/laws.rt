@@ -1,8 +1,8 @@
 //! What is true of the definitions.
 ghost use Rattle.segment.specs.Example.{TheExample};
-ghost use Rattle.segment.specs.Laws.{FindsOne, WrittenIsAccepted};
+ghost use Rattle.segment.specs.Laws.{AcceptedIsWritten, FindsOne, WrittenIsAccepted};
 
-use seg_bytes::what_was_written_is_read;
+use seg_bytes::{what_is_read_was_written, what_was_written_is_read};
 
 /// The format's example has its 189 bytes, and breaks no rule.
 pub fn the_example_is_written()
@@ -19,4 +19,11 @@ pub fn what_was_written_is_accepted()
     ensures { WrittenIsAccepted }
 {
     what_was_written_is_read();
+}
+
+/// What is accepted is what is written of its documents: no other bytes are.
+pub fn what_is_accepted_was_written()
+    ensures { AcceptedIsWritten }
+{
+    what_is_read_was_written();
 }

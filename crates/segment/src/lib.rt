@@ -11,8 +11,13 @@ mod documents;
 mod header;
 mod laws;
 mod layout;
+mod limits;
 mod segment;
 mod writing;
 
-pub use laws::{one_thing_is_found, the_example_is_written, what_was_written_is_accepted};
+pub use laws::{
+    one_thing_is_found, the_example_is_written, what_is_accepted_was_written,
+    what_was_written_is_accepted,
+};
+pub use limits::{MOST_BATCH_OPERATIONS, limits_are_exact};
 pub use segment::Segment;

@@ -12,6 +12,7 @@ ghost use Rattle.fst_code.specs.Shapes.{IsBytes};
 ghost use Rattle.fst_code.specs.Transducers.{IsTransducer};
 ghost use Rattle.fst_walk.specs.Starts.{AllHaveContexts};
 ghost use Rattle.segment.specs.Faults.{Accepts, Refuses};
+ghost use Rattle.segment.specs.declared.limits.TheConstants.{MOST_BATCH_OPERATIONS};
 ghost use Rattle.segment.specs.Laws.{IsNumbered};
 ghost use Rattle.segment.specs.Represents.{IsTextOf, NumbersRise, path_tails};
 ghost use Rattle.segment.specs.SegmentBytes.{IsWritten};
@@ -40,8 +41,7 @@ pub struct Segment {
 impl Model for Segment {
     ghost use Rattle.std.specs.Prelude.{List};
     ghost use Rattle.sg_paths.specs.Operations.{PlainNumbered};
-    ghost use Rattle.segment.specs.Faults.{Accepts, Refuses};
-ghost use Rattle.segment.specs.Represents.{Represents};
+    ghost use Rattle.segment.specs.Represents.{Represents};
 
     ghost Value = { List PlainNumbered };
 
@@ -88,7 +88,7 @@ impl Segment {
     /// The documents that the operations of a batch add, deleted ones too, copied.
     pub fn of_batch(alloc: Global, batch: &Batch) -> Result<Segment, AllocError>
         requires some { 1 ≤ length batch.now.operations }
-        requires most { length batch.now.operations ≤ 16384 }
+        requires most { length batch.now.operations ≤ MOST_BATCH_OPERATIONS }
         requires from { 1 ≤ batch.now.from }
         requires upto { batch.now.upto + 1 ≡ batch.now.from + length batch.now.operations }
         ensures { IfOk result (λ s. s ≡ documents_from batch.now.from batch.now.operations) }
@@ -103,11 +103,7 @@ impl Segment {
     pub fn write(&self) -> Result<Bytes, AllocError>
         ensures { IfOk result (λ b. IsWritten self.now b.items) }
     {
-        Ok(Bytes::from_vec(written(
-            self.alloc,
-            &self.table,
-            self.text(),
-        )?))
+        Ok(Bytes::from_vec(written(self.alloc, &self.table, self.text())?))
     }
 
     /// Takes over bytes that break no rule, and else says which is broken first, and where. Memory

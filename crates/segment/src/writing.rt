@@ -41,12 +41,7 @@ fn put_places(out: &mut Vec<u8>, places: &[u32]) -> Result<(), AllocError>
     Ok(())
 }
 
-fn put_header(
-    out: &mut Vec<u8>,
-    documents: u32,
-    paths: u32,
-    text: u64,
-) -> Result<(), AllocError>
+fn put_header(out: &mut Vec<u8>, documents: u32, paths: u32, text: u64) -> Result<(), AllocError>
     ensures { OnOk result (out.new.items ≡ out.old.items ++ header_bytes documents paths text) }
 {
     out.extend_from_slice(b"SGS1")?;

@@ -7,4 +7,8 @@ mod live_docs;
 #[cfg(test)]
 mod making;
 #[cfg(test)]
+mod segment_bytes;
+#[cfg(test)]
+mod segments;
+#[cfg(test)]
 mod tables;

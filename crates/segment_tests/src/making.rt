@@ -2,7 +2,7 @@
 
 use sg_base::{Bytes, Context, Key, Text};
 use sg_paths::{Document, Numbered, Suggestion};
-use std::alloc::Global;
+use std::alloc::{AllocError, Global};
 use std::test::Fail;
 
 fn contexts_of(alloc: Global, spelled: &str) -> Result<Vec<Context>, Fail> {
@@ -26,7 +26,7 @@ fn suggestion_of(alloc: Global, spelled: &str) -> Result<Suggestion, Fail> {
 }
 
 /// A document: its id, and its suggestions with blanks between them.
-fn document_of(alloc: Global, spelled: &str) -> Result<Document, Fail> {
+pub fn document_of(alloc: Global, spelled: &str) -> Result<Document, Fail> {
     let (id, rest) = spelled.trim().split_once(' ').ok_or("no suggestion")?;
     let mut suggestions = Vec::new(alloc);
     for word in rest.split_whitespace() {
@@ -44,4 +44,30 @@ pub fn documents_of(alloc: Global, spelled: &str) -> Result<Vec<Numbered>, Fail>
         documents.push(Numbered { seq, document })?;
     }
     Ok(documents)
+}
+
+fn digit_of(byte: u8) -> Option<u8> {
+    match byte {
+        b'0'..=b'9' => Some(byte - b'0'),
+        b'a'..=b'f' => Some(byte - b'a' + 10),
+        _ => None,
+    }
+}
+
+/// The bytes of pairs of hexadecimal digits, between which blanks may stand.
+pub fn bytes_of(alloc: Global, text: &str) -> Result<Vec<u8>, AllocError> {
+    let mut bytes = Vec::new(alloc);
+    let mut high = None;
+    for byte in text.bytes() {
+        if let Some(digit) = digit_of(byte) {
+            match high {
+                None => high = Some(digit),
+                Some(first) => {
+                    bytes.push(first.wrapping_mul(16).wrapping_add(digit))?;
+                    high = None;
+                }
+            }
+        }
+    }
+    Ok(bytes)
 }

@@ -1,5 +1,5 @@
 -- What is built of the documents is compared with the bytes.
-use Rattle.std.proofs.Common.{◌≡◌, ℕ, List, Option, Some, None, sym, ap, ◌∙◌}
+use Rattle.std.proofs.Common.{List, Some, ap, ◌∙◌}
 use Rattle.sg_paths.specs.Operations.{PlainNumbered}
 use Rattle.seg_bytes.specs.Fields.{reads}
 use Rattle.segment.specs.Rules.{rule_7}

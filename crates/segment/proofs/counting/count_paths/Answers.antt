@@ -1,6 +1,7 @@
 -- One document more.
-use Rattle.std.proofs.Common.{◌≡◌, ◌≤◌, ◌<◌, ◌+◌, ◌-◌, ◌*◌, ℕ, zero, suc, List, [], ◌∷◌, ◌++◌, length, map}
-use Rattle.std.proofs.Common.{take, drop, refl, sym, ap, ◌∙◌, arith, length-append}
+use Rattle.std.proofs.Common.{◌≡◌, ◌≤◌, ◌<◌, ◌+◌, ◌-◌, ◌*◌, ℕ, zero, suc, List, [], ◌∷◌}
+use Rattle.std.proofs.Common.{length, map}
+use Rattle.std.proofs.Common.{take, drop, refl, ap, arith, length-append}
 use Rattle.std.proofs.lemmas.List.{length-map}
 use Rattle.sg_paths.specs.Operations.{PlainNumbered}
 use Rattle.sg_paths.specs.Paths.{paths}

@@ -1,5 +1,5 @@
 -- The documents of a batch have rising numbers.
-use Rattle.std.proofs.Common.{◌≡◌, List, map, sym, subst}
+use Rattle.std.proofs.Common.{List, map, sym, subst}
 use Rattle.sg_paths.specs.Operations.{PlainNumbered, plain_op}
 use Rattle.segment.specs.Represents.{NumbersRise}
 use Rattle.segment.proofs.NumberLemmas.{numbers_rise}

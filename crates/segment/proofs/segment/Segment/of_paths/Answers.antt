@@ -25,7 +25,7 @@ represents docs held text paths h is maps canonical only legal rise few many =
       legal = subst (λ (z : List FullPath). All (λ p. IsLegal p.entry) z) is legal;
       rise = rise;
       few = few;
-      many = subst (λ (z : List FullPath). length z ≤ 4194304) is many
+      many = subst (λ (z : List FullPath). length z ≤ 4194304) is many;
     })
 
 pub invariant_of-result : goal.invariant_of-result

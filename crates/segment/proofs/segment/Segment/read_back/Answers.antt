@@ -1,5 +1,5 @@
 -- What is written of a segment is accepted, with its documents.
-use Rattle.std.proofs.Common.{◌≡◌, ◌<◌, ℕ, List, length, sym, ap, ◌∙◌, subst, arith}
+use Rattle.std.proofs.Common.{◌≡◌, ◌<◌, ℕ, List, length, ap, ◌∙◌, subst, arith}
 use Rattle.std.specs.List.{AllByRecursion}
 use Rattle.sg_paths.specs.Operations.{PlainNumbered}
 use Rattle.seg_bytes.specs.Laws.{IsWritable}
@@ -16,7 +16,7 @@ may_be_held docs slice text is writable numbered r = record {
   numbered = numbered;
   rise = r.rise;
   few = r.few;
-  many = r.many
+  many = r.many;
 }
 
 pub unreachable-requires : goal.unreachable-requires
@@ -25,8 +25,8 @@ unreachable-requires c =
     let bytes = c.in_ok-bytes.bytes.items in
     let bad = rw c.in-Err-Bad.field-0-is at c.in-Err-Bad.ensures.err in
     let may = may_be_held docs c.docs.result.now c.self.inside.transducer c.docs.ensures
-        c.documents_len.ensures.writable (rw (← c.self.view_is) at c.requires)
-        c.self.invariant in
+    c.documents_len.ensures.writable (rw (← c.self.view_is) at c.requires)
+    c.self.invariant in
     let size = ap (λ (bs : List ℕ). length bs) c.as_slice.ensures in
     let fits : length bytes < 18446744073709551616 = omega (arith, size) in
     none_refused c.what_was_written_is_accepted.ensures docs bytes
@@ -38,8 +38,8 @@ returns-in-Ok c =
     let docs = c.self.inside.table in
     let bytes = c.in_ok-bytes.bytes.items in
     let may = may_be_held docs c.docs.result.now c.self.inside.transducer c.docs.ensures
-        c.documents_len.ensures.writable (rw (← c.self.view_is) at c.requires)
-        c.self.invariant in
+    c.documents_len.ensures.writable (rw (← c.self.view_is) at c.requires)
+    c.self.invariant in
     let size = ap (λ (bs : List ℕ). length bs) c.as_slice.ensures in
     let fits : length bytes < 18446744073709551616 = omega (arith, size) in
     same_documents c.what_was_written_is_accepted.ensures docs c.in-Ok.segment bytes may

@@ -12,13 +12,13 @@ is_text_of : (docs : List PlainNumbered) (held text same : List ℕ) → Represe
 is_text_of docs held text same r is valid e all = record {
   bytes = subst (λ z. IsBytes z) (sym e) all;
   valid = subst (λ z. IsValid z) (sym (e ∙ is)) valid;
-  maps = ap list_of (e ∙ is) ∙ r.maps
+  maps = ap list_of (e ∙ is) ∙ r.maps;
 }
 
 pub returns : goal.returns
 returns c =
     let own = c.bytes.ensures in
     let is = is_text_of c.self.inside.table c.self.inside.transducer c.bytes.result.now
-        c.known_bytes.result.now c.self.invariant own.value own.valid c.known_bytes.ensures.same
-        c.known_bytes.ensures.bytes in
+    c.known_bytes.result.now c.self.invariant own.value own.valid c.known_bytes.ensures.same
+    c.known_bytes.ensures.bytes in
     rw (← c.self.view_is) is
