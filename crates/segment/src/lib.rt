@@ -11,8 +11,10 @@ mod documents;
 mod header;
 mod laws;
 mod layout;
+mod parts;
 mod segment;
 mod writing;
 
 pub use laws::{one_thing_is_found, the_example_is_written, what_was_written_is_accepted};
+pub use parts::{Kind, MergeParts, Piece, ViewParts};
 pub use segment::Segment;
