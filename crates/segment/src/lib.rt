@@ -12,6 +12,7 @@ mod header;
 mod laws;
 mod layout;
 mod limits;
+mod parts;
 mod segment;
 mod writing;
 
@@ -20,4 +21,5 @@ pub use laws::{
     what_was_written_is_accepted,
 };
 pub use limits::{MOST_BATCH_OPERATIONS, limits_are_exact};
+pub use parts::{Kind, MergeParts, Piece, ViewParts};
 pub use segment::Segment;

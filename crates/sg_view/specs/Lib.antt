@@ -1,1 +1,3 @@
 pub mod PlainParts
+pub mod Viewing
+pub mod Building

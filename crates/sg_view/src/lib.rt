@@ -1,7 +1,13 @@
-//! What a search sees of a segment. Contracts see a segment's documents and the nodes of its
-//! transducer.
+//! Point-in-time views: a pending view is built of its parts outside the index's lock, and
+//! represents a prefix of the operations; a search of its segments sees each by its table and its
+//! transducer. Contracts see a ticket as its parts and a view as its segments.
 #![tactic(auto)]
 
+mod building;
 mod segment_parts;
+mod ticket;
+mod view;
 
 pub use segment_parts::SegmentParts;
+pub use ticket::Ticket;
+pub use view::View;

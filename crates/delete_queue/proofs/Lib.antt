@@ -1,0 +1,5 @@
+pub mod RangeLemmas
+pub mod CoverLemmas
+pub mod RisingLemmas
+pub mod PlaceLemmas
+pub mod JournalLemmas
