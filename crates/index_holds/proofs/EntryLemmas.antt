@@ -150,32 +150,33 @@ used-with_holder gens (h ∷ hs) used =
 abbrev Found : (Held → Type 0) → List ℕ → List Held → Type 0
 Found P gens hs = (g : ℕ) → is_among g gens ≡ true → IfSome (entry_of hs g) P
 
-same_number : (m n : ℕ) → nat_eq m n ≡ true → m ≡ n
+pub same_number : (m n : ℕ) → nat_eq m n ≡ true → m ≡ n
 same_number m n same = grind (arith, nat_tests)
 
-itself : (n : ℕ) → nat_eq n n ≡ true
+pub itself : (n : ℕ) → nat_eq n n ≡ true
 itself n = grind (arith, nat_tests)
 
 if_some : (P : Held → Type 0) (o : Option Held) → IsSomeAnd o P → IfSome o P
 if_some P (Some h) is = is
 if_some P None is = tt
 
-found_at : (P : Held → Type 0) (b : Bool) (g n : ℕ) (gens : List ℕ) (hs : List Held)
-    → nat_eq g n ≡ b → IsSomeAnd (entry_of hs n) P
-    → (is_among g gens ≡ true → IfSome (entry_of hs g) P)
-    → (b || is_among g gens) ≡ true → IfSome (entry_of hs g) P
-found_at P true g n gens hs is first more among =
-    subst (λ m. IfSome (entry_of hs m) P) (sym (same_number g n is))
-    (if_some P (entry_of hs n) first)
-found_at P false g n gens hs is first more among = more among
+among_at : (Q : ℕ → Type 0) (b : Bool) (g n : ℕ) (gens : List ℕ) → nat_eq g n ≡ b → Q n
+    → (is_among g gens ≡ true → Q g) → (b || is_among g gens) ≡ true → Q g
+among_at Q true g n gens is first more among = subst Q (sym (same_number g n is)) first
+among_at Q false g n gens is first more among = more among
+
+-- what is so of all is so of each
+pub all_among : (Q : ℕ → Type 0) (gens : List ℕ) (g : ℕ) → All Q gens → is_among g gens ≡ true
+    → Q g
+all_among Q [] g all among = absurd cc
+all_among Q (n ∷ gens) g all among =
+    among_at Q (nat_eq g n) g n gens refl (All-head Q n gens all)
+    (all_among Q gens g (All-tail Q n gens all)) among
 
 found : (P : Held → Type 0) (gens : List ℕ) (hs : List Held)
     → All (λ g. IsSomeAnd (entry_of hs g) P) gens → Found P gens hs
-found P [] hs all g among = absurd cc
-found P (n ∷ gens) hs all g among =
-    found_at P (nat_eq g n) g n gens hs refl
-    (All-head (λ m. IsSomeAnd (entry_of hs m) P) n gens all)
-    (found P gens hs (All-tail (λ m. IsSomeAnd (entry_of hs m) P) n gens all) g) among
+found P gens hs all g among =
+    if_some P (entry_of hs g) (all_among (λ n. IsSomeAnd (entry_of hs n) P) gens g all among)
 
 absent : (g : ℕ) (hs : List Held) → Above g hs → entry_of hs g ≡ None
 absent g [] above = refl

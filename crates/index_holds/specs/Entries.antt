@@ -1,8 +1,8 @@
 -- What is so of the entries, and what the loops over them ask. No public clause cites this module.
-use Rattle.std.specs.Prelude.{◌≡◌, ◌<◌, ◌^◌, ◌-◌, ⊤, ℕ, true, List, [], ◌∷◌}
+use Rattle.std.specs.Prelude.{◌≡◌, ◌<◌, ◌^◌, ◌-◌, ⊤, ℕ, true, not, List, [], ◌∷◌, filter}
 use Rattle.std.specs.List.{AllByRecursion}
 use Rattle.index_holds.specs.declared.held.Held.{Held}
-use Rattle.index_holds.specs.Holders.{is_among, is_used}
+use Rattle.index_holds.specs.Holders.{is_among, is_held, is_used}
 
 -- the generations rise strictly
 abbrev pub Rise : List Held → Type 0
@@ -24,3 +24,7 @@ HaveRoom gens entries = EachOf gens (λ h. h.holders < 2 ^ 32 - 1) entries
 -- each of these generations has a holder
 abbrev pub HaveHolders : List ℕ → List Held → Type 0
 HaveHolders gens entries = EachOf gens (λ h. 0 < h.holders) entries
+
+-- those of the generations that nothing holds
+abbrev pub unheld : List Held → List ℕ → List ℕ
+unheld entries gens = filter (λ g. not (is_held entries g)) gens

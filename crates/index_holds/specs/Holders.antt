@@ -61,9 +61,9 @@ after_release gens entries = filter is_used (map (without_holder gens) entries)
 abbrev pub after_retire : List ℕ → List Held → List Held
 after_retire gens entries = filter is_used (map (without_current gens) entries)
 
--- those of the generations that nothing holds
-abbrev pub unheld : List Held → List ℕ → List ℕ
-unheld entries gens = filter (λ g. not (is_held entries g)) gens
+-- the generations that were held and aren't any more, rising
+abbrev pub given_up : List Held → List Held → List ℕ
+given_up old new = filter (λ g. not (is_held new g)) (map (λ h. h.generation) old)
 
 -- the generation is held, and one more may hold it
 abbrev pub HasRoom : List Held → ℕ → Type 0

@@ -1,8 +1,8 @@
 //! What isn't held any more goes.
 ghost use Rattle.std.specs.Prelude.{◌≡◌, filter};
 ghost use Rattle.std.specs.Vec.{vec_capacity};
-ghost use Rattle.index_holds.specs.Entries.{Rise};
-ghost use Rattle.index_holds.specs.Holders.{is_used, unheld};
+ghost use Rattle.index_holds.specs.Entries.{Rise, unheld};
+ghost use Rattle.index_holds.specs.Holders.{is_used};
 
 use crate::held::Held;
 use crate::searching::is_held;

@@ -2,9 +2,9 @@
 ghost use Rattle.std.specs.Prelude.{◌≡◌, ◌<◌, ◌+◌, [], All, OnErr, OnOk, false, max, vec_len};
 ghost use Rattle.std.specs.List.Sorted.{IsStrictlyIncreasing};
 ghost use Rattle.std.specs.Vec.{vec_capacity};
-ghost use Rattle.index_holds.specs.Entries.{AreUsed, Rise};
-ghost use Rattle.index_holds.specs.Holders.{after_release, after_retire, HasHolder, HasRoom};
-ghost use Rattle.index_holds.specs.Holders.{IsCurrentAndHeld, is_held, unheld, with_current};
+ghost use Rattle.index_holds.specs.Entries.{Rise, unheld};
+ghost use Rattle.index_holds.specs.Holders.{after_release, after_retire, given_up, HasHolder};
+ghost use Rattle.index_holds.specs.Holders.{HasRoom, IsCurrentAndHeld, is_held, with_current};
 ghost use Rattle.index_holds.specs.Holders.{with_holder};
 ghost use Rattle.std.specs.Prelude.{map, filter};
 ghost use Rattle.index_holds.specs.Holders.{is_used};
@@ -144,7 +144,7 @@ impl Holds {
         ensures entries { self.new.entries ≡ after_release gens.items self.old.entries }
         ensures spare { self.new.spare ≡ self.old.spare }
         // What isn't any more.
-        ensures freed { result.gens.items ≡ unheld self.new.entries gens.items }
+        ensures freed { result.gens.items ≡ given_up self.old.entries self.new.entries }
         ensures rising { IsStrictlyIncreasing result.gens.items }
         ensures places { result.gens.places ≡ vec_capacity gens }
     {
@@ -161,7 +161,7 @@ impl Holds {
         ensures entries { self.new.entries ≡ after_retire gens.items self.old.entries }
         ensures spare { self.new.spare ≡ self.old.spare }
         // What isn't any more.
-        ensures freed { result.gens.items ≡ unheld self.new.entries gens.items }
+        ensures freed { result.gens.items ≡ given_up self.old.entries self.new.entries }
         ensures rising { IsStrictlyIncreasing result.gens.items }
         ensures places { result.gens.places ≡ vec_capacity gens }
     {
