@@ -8,8 +8,10 @@ mod filtering;
 mod freed;
 mod held;
 mod holds;
+mod laws;
 mod searching;
 
 pub use freed::Freed;
 pub use held::Held;
 pub use holds::Holds;
+pub use laws::counts_are_exact;
