@@ -1,7 +1,7 @@
 -- One pass over all sizes gives what the plan takes from the candidates.
-use Rattle.std.proofs.Common.{◌≡◌, ◌<◌, ◌≤◌, ◌+◌, ◌-◌, ◌*◌, ℕ, zero, suc, Bool, true, false, not}
+use Rattle.std.proofs.Common.{◌≡◌, ◌-◌, ℕ, Bool, true, false, not}
 use Rattle.std.proofs.Common.{cond, nat_eq, nat_lt, ◌&&◌, List, [], ◌∷◌, length, take, Option, Some}
-use Rattle.std.proofs.Common.{◌⊎◌, inl, inr, None, refl, sym, ap, ◌∙◌, arith}
+use Rattle.std.proofs.Common.{None, refl, sym, ap, ◌∙◌}
 use Rattle.std.specs.Prelude.{map, filter, find, option_map}
 use Rattle.merge_plan.specs.declared.size.Size.{Size}
 use Rattle.merge_plan.specs.Levels.{first_of_level, is_mostly_deleted, is_of}
@@ -98,20 +98,3 @@ plan-one sizes is =
     (first_of o (mostly_deleted (candidates sizes)))) none
     ∙ alone (find (λ s. nat_lt s.live (s.documents - s.live)) (candidates sizes))
     ∙ ap (option_map (λ s. s.generation ∷ [])) (deleted_same sizes)
-
--- ---- the step of the loop
-
-pub take-one : (left : ℕ) (s : Size) (ss : List Size) → 0 < left
-    → take left (s ∷ ss) ≡ s ∷ take (left - 1) ss
-take-one zero s ss some = absurd (omega arith)
-take-one (suc n) s ss some = let e : suc n - 1 ≡ n = omega arith in rw e refl
-
-pub taken : (p : Size → Bool) (left : ℕ) (s : Size) (ss : List Size) → 0 < left → p s ≡ true
-    → take left (filter p (s ∷ ss)) ≡ s ∷ take (left - 1) (filter p ss)
-taken p left s ss some is = rw is (take-one left s (filter p ss) some)
-
-pub passed : (p : Size → Bool) (left : ℕ) (s : Size) (ss : List Size)
-    → (left ≡ 0) ⊎ (p s ≡ false)
-    → take left (filter p (s ∷ ss)) ≡ take left (filter p ss)
-passed p left s ss (inl none) = rw none refl
-passed p left s ss (inr other) = rw other refl

@@ -1,7 +1,7 @@
 //! Levels: segments of like size.
-ghost use Rattle.std.specs.Prelude.{◌≡◌, ◌+◌, IfOk, count_by, find, length, map, nat_le, option_map};
-ghost use Rattle.std.specs.Prelude.{Some, sum_by};
-ghost use Rattle.merge_plan.specs.Levels.{first_of_level, is_of};
+ghost use Rattle.std.specs.Prelude.{◌≡◌, ◌<◌, ◌+◌, IfOk, count_by, find, length, map, nat_le};
+ghost use Rattle.std.specs.Prelude.{Some, option_map, sum_by};
+ghost use Rattle.merge_plan.specs.Levels.{first_of_level, is_of, LeavesRoom};
 ghost use Rattle.merge_plan.specs.Merges.{digits, is_full};
 
 use crate::size::Size;
@@ -56,6 +56,23 @@ fn is_of(size: &Size, level: u32) -> bool
     !size.held && digits(size.live) == level as usize
 }
 
+// With one more.
+fn joined(together: Together, size: &Size) -> Together
+    requires left { 0 < together.left }
+    requires documents { LeavesRoom together.left together.documents }
+    requires paths { LeavesRoom together.left together.paths }
+    ensures left { result.left + 1 ≡ together.left }
+    ensures documents { result.documents ≡ together.documents + size.now.documents }
+    ensures paths { result.paths ≡ together.paths + size.now.paths }
+    ensures room { LeavesRoom result.left result.documents × LeavesRoom result.left result.paths }
+{
+    Together {
+        left: together.left - 1,
+        documents: together.documents + u64::from(size.documents),
+        paths: together.paths + u64::from(size.paths),
+    }
+}
+
 // What the first ten of a level have together.
 fn first_ten(sizes: &[Size], level: u32) -> Together
     ensures left { result.left + length (first_of_level level sizes.now) ≡ 10 }
@@ -70,9 +87,7 @@ fn first_ten(sizes: &[Size], level: u32) -> Together
     };
     for size in sizes {
         if together.left > 0 && is_of(size, level) {
-            together.left -= 1;
-            together.documents += u64::from(size.documents);
-            together.paths += u64::from(size.paths);
+            together = joined(together, size);
         }
     }
     together
