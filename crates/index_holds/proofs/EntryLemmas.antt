@@ -1,9 +1,9 @@
 -- Entries by rising generation: what keeps them so, and what a look-up says of each of them.
-use Rattle.std.proofs.Common.{◌≡◌, ◌<◌, ◌≤◌, ◌+◌, ℕ, zero, suc, Bool, true, false, not, cond}
+use Rattle.std.proofs.Common.{◌≡◌, ◌<◌, ◌≤◌, ◌+◌, ℕ, Bool, true, false, cond}
 use Rattle.std.proofs.Common.{nat_eq, nat_lt, ◌||◌, List, [], ◌∷◌, Option, Some, None}
-use Rattle.std.proofs.Common.{refl, sym, ap, ◌∙◌, subst, arith}
-use Rattle.std.specs.Prelude.{map, filter, find, length, All, IfSome, IsTrue}
-use Rattle.std.specs.List.{AllByRecursion, list_any}
+use Rattle.std.proofs.Common.{refl, sym, subst, arith}
+use Rattle.std.specs.Prelude.{map, filter, length, All, IfSome, IsTrue}
+use Rattle.std.specs.List.{AllByRecursion}
 use Rattle.std.specs.Option.{IsSomeAnd}
 use Rattle.std.proofs.lemmas.Bool.{ltb-true, ltb-false}
 use Rattle.std.proofs.lemmas.Bool.Decides.{nat_tests}
@@ -205,7 +205,7 @@ each_found P gens [] rise is = tt
 each_found P gens (h ∷ hs) rise is = (
   λ among. first_found P h hs (is h.generation among),
   each_found P gens hs rise.1 (λ g among.
-  behind_at P (nat_eq h.generation g) g h hs refl rise.0 (is g among)),
+      behind_at P (nat_eq h.generation g) g h hs refl rise.0 (is g among)),
 )
 
 pub each_of : (P : Held → Type 0) (gens : List ℕ) (hs : List Held) → Rise hs

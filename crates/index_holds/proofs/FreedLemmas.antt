@@ -1,9 +1,9 @@
 -- What is freed: those of the generations given back that nothing holds are all that were held and
 -- aren't any more.
 use Rattle.std.proofs.Common.{◌≡◌, ◌<◌, ◌≤◌, ◌+◌, inl, inr, ℕ, suc, Bool, true, false, not}
-use Rattle.std.proofs.Common.{cond, nat_eq, ◌||◌, ◌&&◌, List, [], ◌∷◌, length, Option, Some, None}
+use Rattle.std.proofs.Common.{cond, nat_eq, ◌||◌, ◌&&◌, List, [], ◌∷◌, Some}
 use Rattle.std.proofs.Common.{refl, sym, ap, ◌∙◌, subst, arith}
-use Rattle.std.specs.Prelude.{map, filter, All}
+use Rattle.std.specs.Prelude.{map, filter}
 use Rattle.std.specs.List.{AllByRecursion}
 use Rattle.std.specs.List.Sorted.{IsStrictlyIncreasing}
 use Rattle.std.specs.Option.{IsSomeAnd}
@@ -14,7 +14,7 @@ use Rattle.std.proofs.lemmas.List.Kept.{AllPairs-from_increasing}
 use Rattle.index_holds.specs.declared.held.Held.{Held}
 use Rattle.index_holds.specs.Entries.{AreUsed, Rise, unheld}
 use Rattle.index_holds.specs.Holders.{entry_of, given_up, is_among, is_held, is_used}
-use Rattle.index_holds.proofs.EntryLemmas.{Above, all_among, itself, same_number}
+use Rattle.index_holds.proofs.EntryLemmas.{Above, itself, same_number}
 
 -- ---- numbers that rise
 

@@ -1,5 +1,5 @@
 -- Worked values of counts, and what they keep to. Source: this project's own.
-use Rattle.std.specs.Prelude.{◌≡◌, ◌<◌, ℕ, Bool, true, false, List, [], ◌∷◌, ◌++◌, map}
+use Rattle.std.specs.Prelude.{◌≡◌, ◌<◌, ℕ, true, false, List, [], ◌∷◌, ◌++◌, map}
 use Rattle.std.specs.List.{AllByRecursion}
 use Rattle.index_holds.specs.declared.held.Held.{Held}
 use Rattle.index_holds.specs.Holders.{after_release, after_retire, given_up, is_used}

@@ -1,6 +1,6 @@
 -- One pass over all sizes gives what the plan takes from the candidates.
 use Rattle.std.proofs.Common.{◌≡◌, ◌-◌, ℕ, Bool, true, false, not}
-use Rattle.std.proofs.Common.{cond, nat_eq, nat_lt, ◌&&◌, List, [], ◌∷◌, length, take, Option, Some}
+use Rattle.std.proofs.Common.{cond, nat_eq, nat_lt, ◌&&◌, List, [], ◌∷◌, take, Option, Some}
 use Rattle.std.proofs.Common.{None, refl, sym, ap, ◌∙◌}
 use Rattle.std.specs.Prelude.{map, filter, find, option_map}
 use Rattle.merge_plan.specs.declared.size.Size.{Size}

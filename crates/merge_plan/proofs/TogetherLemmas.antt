@@ -1,7 +1,7 @@
 -- What the first ten of a level have together, as one pass over all sizes adds it up.
-use Rattle.std.proofs.Common.{◌≡◌, ◌<◌, ◌≤◌, ◌+◌, ◌-◌, ◌*◌, ◌⊎◌, inl, inr, ℕ, zero, suc, Bool}
-use Rattle.std.proofs.Common.{true, false, cond, List, [], ◌∷◌, length, take, drop, get_or, refl}
-use Rattle.std.proofs.Common.{sym, ap, ◌∙◌, subst, arith}
+use Rattle.std.proofs.Common.{◌≡◌, ◌<◌, ◌+◌, ◌-◌, ◌⊎◌, inl, inr, ℕ, zero, suc, Bool}
+use Rattle.std.proofs.Common.{true, false, List, [], ◌∷◌, length, take, drop, get_or, refl}
+use Rattle.std.proofs.Common.{ap, ◌∙◌, arith}
 use Rattle.std.specs.Prelude.{filter, sum_by}
 use Rattle.std.proofs.lemmas.List.Sums.{sum_by-cons}
 use Rattle.merge_plan.specs.declared.size.Size.{Size}
@@ -64,11 +64,11 @@ going-taken {level = level} {sizes = sizes} {i = i} {free = free} d free' docume
     let n : length (take free (filter (is_of level) (drop i sizes))) ≡ length (s ∷ take free' later) =
     ap length all in
     let ds : sum_by (λ z. z.documents) (take free (filter (is_of level) (drop i sizes)))
-        ≡ s.documents + sum_by (λ z. z.documents) (take free' later) =
+    ≡ s.documents + sum_by (λ z. z.documents) (take free' later) =
     ap (λ ss. sum_by (λ (z : Size). z.documents) ss) all
     ∙ sum_by-cons (λ (z : Size). z.documents) s (take free' later) in
     let ps : sum_by (λ z. z.paths) (take free (filter (is_of level) (drop i sizes)))
-        ≡ s.paths + sum_by (λ z. z.paths) (take free' later) =
+    ≡ s.paths + sum_by (λ z. z.paths) (take free' later) =
     ap (λ ss. sum_by (λ (z : Size). z.paths) ss) all
     ∙ sum_by-cons (λ (z : Size). z.paths) s (take free' later) in
     record {
@@ -87,7 +87,7 @@ pub going-passed : {level : ℕ} {sizes : List Size} {i free documents paths : �
 going-passed {level = level} {sizes = sizes} {i = i} {free = free} d g within other =
     let s = get_or sizes i d in
     let all : take free (filter (is_of level) (drop i sizes))
-        ≡ take free (filter (is_of level) (drop (i + 1) sizes)) =
+    ≡ take free (filter (is_of level) (drop (i + 1) sizes)) =
     ap (λ ss. take free (filter (is_of level) ss)) (drop_at sizes i d within)
     ∙ passed (is_of level) free s (drop (i + 1) sizes) other in
     let n = ap length all in

@@ -1,5 +1,5 @@
 -- Worked values of the merge plan. Source: this project's own.
-use Rattle.std.specs.Prelude.{◌≡◌, ℕ, Bool, true, false, Some, None, List, [], ◌∷◌, ◌++◌, map}
+use Rattle.std.specs.Prelude.{◌≡◌, ℕ, true, false, Some, None, List, [], ◌∷◌, ◌++◌, map}
 use Rattle.merge_plan.specs.declared.size.Size.{Size}
 use Rattle.merge_plan.specs.Merges.{digits, plan}
 

@@ -135,11 +135,7 @@ fn first_generations(alloc: Global, sizes: &[Size], level: u32) -> Result<Vec<u3
 }
 
 /// The generations of the first ten of a level.
-pub fn ten_of(
-    alloc: Global,
-    sizes: &[Size],
-    level: u32,
-) -> Result<Option<Vec<u32>>, AllocError>
+pub fn ten_of(alloc: Global, sizes: &[Size], level: u32) -> Result<Option<Vec<u32>>, AllocError>
     ensures { IfOk result (λ found. option_map (λ gens. gens.items) found
         ≡ Some (map (λ s. s.generation) (first_of_level level sizes.now))) }
 {

@@ -1,6 +1,5 @@
 -- The first are changed, and the rest are as they were.
 use Rattle.std.proofs.Common.{◌≡◌, ◌++◌, take, drop, map}
-use Rattle.std.specs.Vec.{vec_capacity}
 use Rattle.index_holds.specs.Entries.{HaveRoom}
 use Rattle.index_holds.specs.Holders.{with_holder}
 use Rattle.index_holds.proofs.counting.hold_each.Given as goal

@@ -1,6 +1,5 @@
 -- The first are changed, and the rest are as they were.
 use Rattle.std.proofs.Common.{◌≡◌, ◌++◌, take, drop, map}
-use Rattle.std.specs.Vec.{vec_capacity}
 use Rattle.index_holds.specs.Entries.{HaveHolders}
 use Rattle.index_holds.specs.Holders.{without_current}
 use Rattle.index_holds.proofs.counting.retire_each.Given as goal

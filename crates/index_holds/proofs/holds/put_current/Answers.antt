@@ -1,5 +1,5 @@
 -- The place is behind all lesser generations.
-use Rattle.std.proofs.Common.{◌≡◌, ◌≤◌, ◌∙◌, length, subst, sym, ap, arith}
+use Rattle.std.proofs.Common.{◌≡◌, ◌∙◌, length, subst, ap, arith}
 use Rattle.index_holds.proofs.PlaceLemmas.{insert-with_current, Parts}
 use Rattle.index_holds.proofs.holds.put_current.Goals as goal
 

@@ -1,11 +1,10 @@
 -- A full level's first ten, else the one that is mostly deleted.
-use Rattle.std.proofs.Common.{◌≡◌, ◌∙◌, List, ℕ, Option, Some, Vec, Global, map, sym}
-use Rattle.std.specs.Prelude.{find, IfSome, option_map}
+use Rattle.std.proofs.Common.{◌≡◌, ◌∙◌, sym}
+use Rattle.std.specs.Prelude.{IfSome, option_map}
 use Rattle.std.specs.List.Sorted.{IsStrictlyIncreasing}
-use Rattle.merge_plan.specs.Levels.{first_of_level, is_mostly_deleted}
 use Rattle.merge_plan.specs.Merges.{plan}
 use Rattle.merge_plan.proofs.PassLemmas.{plan-one, plan-ten}
-use Rattle.merge_plan.proofs.RisingLemmas.{found_has, ok_weaker, rising_first, rising_one}
+use Rattle.merge_plan.proofs.RisingLemmas.{found_has, ok_weaker, rising_first}
 use Rattle.merge_plan.proofs.planning.plan.Goals as goal
 
 pub returns-in-Some-clause-plan : goal.returns-in-Some-clause-plan

@@ -1,7 +1,7 @@
 -- A new generation goes to its place, and there is room for it beside the spare places.
-use Rattle.std.proofs.Common.{◌≡◌, ◌∙◌, false, subst, sym, ap, arith}
+use Rattle.std.proofs.Common.{◌≡◌, false, subst, sym, arith}
 use Rattle.index_holds.specs.Entries.{AreUsed, Rise}
-use Rattle.index_holds.specs.Holders.{is_held, PlainHolds, with_current}
+use Rattle.index_holds.specs.Holders.{is_held, PlainHolds}
 use Rattle.index_holds.proofs.EntryLemmas.{rise-with_current, used-with_current}
 use Rattle.index_holds.proofs.holds.Holds.bring.Goals as goal
 
@@ -14,6 +14,11 @@ invariant_of-self c =
           c.self.invariant.0),
       subst AreUsed is (used-with_current c.args.generation c.self.inside.entries.items
           c.self.invariant.1),
-      omega (arith, c.put_current.ensures.len, c.put_current.ensures.places, c.requires.spare,
-          c.self.invariant.2),
+      omega (
+        arith,
+        c.put_current.ensures.len,
+        c.put_current.ensures.places,
+        c.requires.spare,
+        c.self.invariant.2,
+      ),
     )

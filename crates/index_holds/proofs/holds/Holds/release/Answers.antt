@@ -1,6 +1,6 @@
 -- Generations stay, and what nothing holds goes.
 use Rattle.std.proofs.Common.{◌≡◌, ◌≤◌, ◌<◌, ◌∙◌, List, ℕ, length, map, refl, subst, sym, ap}
-use Rattle.std.proofs.Common.{arith, ◌-◌, false}
+use Rattle.std.proofs.Common.{arith, ◌-◌}
 use Rattle.std.specs.Prelude.{All, filter, not}
 use Rattle.std.specs.List.Sorted.{IsStrictlyIncreasing}
 use Rattle.std.proofs.lemmas.List.{length-map}
@@ -45,8 +45,14 @@ invariant_of-self c =
       subst Rise is (rise-filter is_used changed (subst Rise (sym c.release_each.ensures.items)
           (rise c.as_slice.result.now old c.self.invariant.0))),
       subst AreUsed is (used-filter changed),
-      omega (arith, kept, n, c.release_each.ensures.places, c.freed_of.ensures.places,
-          c.self.invariant.2),
+      omega (
+        arith,
+        kept,
+        n,
+        c.release_each.ensures.places,
+        c.freed_of.ensures.places,
+        c.self.invariant.2,
+      ),
     )
 
 pub returns-clause-rising : goal.returns-clause-rising

@@ -45,8 +45,14 @@ invariant_of-self c =
       subst Rise is (rise-filter is_used changed (subst Rise (sym c.retire_each.ensures.items)
           (rise c.as_slice.result.now old c.self.invariant.0))),
       subst AreUsed is (used-filter changed),
-      omega (arith, kept, n, c.retire_each.ensures.places, c.freed_of.ensures.places,
-          c.self.invariant.2),
+      omega (
+        arith,
+        kept,
+        n,
+        c.retire_each.ensures.places,
+        c.freed_of.ensures.places,
+        c.self.invariant.2,
+      ),
     )
 
 pub returns-clause-rising : goal.returns-clause-rising
