@@ -1,5 +1,5 @@
-//! Which generations are held, and by how many views and merges. The index keeps one of these beside
-//! its pieces, and hears from it what nothing references any more. Contracts see the held
+//! Which generations are held, and by how many views and merges. The index keeps one of these
+//! beside its pieces, and hears from it what nothing references any more. Contracts see the held
 //! generations, rising, each with what holds it, and how many places are spare.
 #![tactic(auto)]
 

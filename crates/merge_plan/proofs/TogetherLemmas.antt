@@ -1,8 +1,9 @@
 -- What the first ten of a level have together, as one pass over all sizes adds it up.
-use Rattle.std.proofs.Common.{◌≡◌, ◌<◌, ◌+◌, ◌-◌, ◌⊎◌, inl, inr, ℕ, zero, suc, Bool}
-use Rattle.std.proofs.Common.{true, false, List, [], ◌∷◌, length, take, drop, get_or, refl}
-use Rattle.std.proofs.Common.{ap, ◌∙◌, arith}
+use Rattle.std.proofs.Common.{◌≡◌, ◌<◌, ◌+◌, ◌-◌, ◌&&◌, ℕ, zero, suc, Bool, true, false, nat_lt}
+use Rattle.std.proofs.Common.{List, [], ◌∷◌, length, take, drop, get_or, refl, sym, ap, ◌∙◌, arith}
 use Rattle.std.specs.Prelude.{filter, sum_by}
+use Rattle.std.proofs.lemmas.Bool.{ltb-true}
+use Rattle.std.proofs.lemmas.Bool.Decides.{nat_tests}
 use Rattle.std.proofs.lemmas.List.Sums.{sum_by-cons}
 use Rattle.merge_plan.specs.declared.size.Size.{Size}
 use Rattle.merge_plan.specs.Levels.{first_of_level, is_of, LeavesRoom}
@@ -16,13 +17,17 @@ taken : (p : Size → Bool) (free : ℕ) (s : Size) (ss : List Size) → 0 < fre
     → take free (filter p (s ∷ ss)) ≡ s ∷ take (free - 1) (filter p ss)
 taken p free s ss some is = rw is (take-one free s (filter p ss) some)
 
-none_taken : (xs ys : List Size) (free : ℕ) → free ≡ 0 → take free xs ≡ take free ys
-none_taken xs ys free none = rw none refl
-
 passed : (p : Size → Bool) (free : ℕ) (s : Size) (ss : List Size)
-    → (free ≡ 0) ⊎ (p s ≡ false) → take free (filter p (s ∷ ss)) ≡ take free (filter p ss)
-passed p free s ss (inl none) = none_taken (filter p (s ∷ ss)) (filter p ss) free none
-passed p free s ss (inr other) = rw other refl
+    → (nat_lt 0 free && p s) ≡ false → take free (filter p (s ∷ ss)) ≡ take free (filter p ss)
+passed p zero s ss is = refl
+passed p (suc n) s ss is =
+    let some : nat_lt 0 (suc n) ≡ true = grind (arith, nat_tests) in
+    let other : p s ≡ false = sym (ap (λ b. b && p s) some) ∙ is in
+    rw other refl
+
+both : (a b : Bool) → (a && b) ≡ true → (a ≡ true) × (b ≡ true)
+both true b is = (refl, is)
+both false b is = absurd cc
 
 drop_at : (sizes : List Size) (i : ℕ) (d : Size) → i < length sizes
     → drop i sizes ≡ get_or sizes i d ∷ drop (i + 1) sizes
@@ -46,22 +51,25 @@ pub record Going (level : ℕ) (sizes rest : List Size) (free documents paths : 
 -- one more joins them
 pub going-taken : {level : ℕ} {sizes : List Size} {i free documents paths : ℕ} (d : Size)
     (free' documents' paths' : ℕ)
-    → Going level sizes (drop i sizes) free documents paths → i < length sizes → 0 < free
-    → is_of level (get_or sizes i d) ≡ true → free' + 1 ≡ free
+    → Going level sizes (drop i sizes) free documents paths → i < length sizes
+    → (nat_lt 0 free && is_of level (get_or sizes i d)) ≡ true → free' + 1 ≡ free
     → documents' ≡ documents + (get_or sizes i d).documents
     → paths' ≡ paths + (get_or sizes i d).paths
     → LeavesRoom free' documents' × LeavesRoom free' paths'
     → Going level sizes (drop (i + 1) sizes) free' documents' paths'
 going-taken {level = level} {sizes = sizes} {i = i} {free = free} d free' documents' paths' g within
-    some is less more_documents more_paths room =
+    is less more_documents more_paths room =
     let s : Size = get_or sizes i d in
     let later : List Size = filter (is_of level) (drop (i + 1) sizes) in
+    let tests = both (nat_lt 0 free) (is_of level s) is in
+    let some : 0 < free = ltb-true 0 free tests.0 in
     let same : free - 1 ≡ free' = omega (arith, less) in
     let all : take free (filter (is_of level) (drop i sizes)) ≡ s ∷ take free' later =
     ap (λ ss. take free (filter (is_of level) ss)) (drop_at sizes i d within)
-    ∙ taken (is_of level) free s (drop (i + 1) sizes) some is
+    ∙ taken (is_of level) free s (drop (i + 1) sizes) some tests.1
     ∙ ap (λ n. s ∷ take n later) same in
-    let n : length (take free (filter (is_of level) (drop i sizes))) ≡ length (s ∷ take free' later) =
+    let n : length (take free (filter (is_of level) (drop i sizes)))
+        ≡ length (s ∷ take free' later) =
     ap length all in
     let ds : sum_by (λ z. z.documents) (take free (filter (is_of level) (drop i sizes)))
     ≡ s.documents + sum_by (λ z. z.documents) (take free' later) =
@@ -82,7 +90,7 @@ going-taken {level = level} {sizes = sizes} {i = i} {free = free} d free' docume
 -- or doesn't
 pub going-passed : {level : ℕ} {sizes : List Size} {i free documents paths : ℕ} (d : Size)
     → Going level sizes (drop i sizes) free documents paths → i < length sizes
-    → (free ≡ 0) ⊎ (is_of level (get_or sizes i d) ≡ false)
+    → (nat_lt 0 free && is_of level (get_or sizes i d)) ≡ false
     → Going level sizes (drop (i + 1) sizes) free documents paths
 going-passed {level = level} {sizes = sizes} {i = i} {free = free} d g within other =
     let s = get_or sizes i d in

@@ -1,5 +1,6 @@
 -- The tests of one pass over all sizes. No public clause cites this module.
-use Rattle.std.specs.Prelude.{ℕ, ◌+◌, ◌-◌, ◌*◌, ◌≤◌, Bool, not, nat_eq, nat_lt, ◌&&◌, List, filter, take}
+use Rattle.std.specs.Prelude.{ℕ, ◌+◌, ◌-◌, ◌*◌, ◌≤◌, Bool, not, nat_eq, nat_lt, ◌&&◌, List}
+use Rattle.std.specs.Prelude.{filter, take}
 use Rattle.merge_plan.specs.declared.size.Size.{Size}
 use Rattle.merge_plan.specs.Merges.{digits}
 

@@ -1,7 +1,7 @@
 //! Laws of the plan.
-ghost use Rattle.merge_plan.specs.WorkedPlans.{WorkedPlans};
+ghost use Rattle.merge_plan.specs.PlanLaws.{ArePlans};
 
-/// The plan has the worked values.
-pub fn worked_plans()
-    ensures { WorkedPlans }
+/// The plan has the worked values, and merges no segment that a merge holds.
+pub fn plans_are_exact()
+    ensures { ArePlans }
 {}

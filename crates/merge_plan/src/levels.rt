@@ -1,6 +1,6 @@
 //! Levels: segments of like size.
 ghost use Rattle.std.specs.Prelude.{◌≡◌, ◌<◌, ◌+◌, IfOk, count_by, find, length, map, nat_le};
-ghost use Rattle.std.specs.Prelude.{Some, option_map, sum_by};
+ghost use Rattle.std.specs.Prelude.{◌&&◌, Some, nat_lt, option_map, sum_by};
 ghost use Rattle.merge_plan.specs.Levels.{first_of_level, is_of, LeavesRoom};
 ghost use Rattle.merge_plan.specs.Merges.{digits, is_full};
 
@@ -56,6 +56,13 @@ fn is_of(size: &Size, level: u32) -> bool
     !size.held && digits(size.live) == level as usize
 }
 
+// Whether it is one of the first ten of its level.
+fn joins(together: Together, size: &Size, level: u32) -> bool
+    ensures { result ≡ (nat_lt 0 together.left && is_of level size.now) }
+{
+    together.left > 0 && is_of(size, level)
+}
+
 // With one more.
 fn joined(together: Together, size: &Size) -> Together
     requires left { 0 < together.left }
@@ -86,7 +93,7 @@ fn first_ten(sizes: &[Size], level: u32) -> Together
         paths: 0,
     };
     for size in sizes {
-        if together.left > 0 && is_of(size, level) {
+        if joins(together, size, level) {
             together = joined(together, size);
         }
     }

@@ -1,9 +1,11 @@
--- Each value computes.
+-- Each worked value computes.
 use Rattle.std.proofs.Common.{refl}
-use Rattle.merge_plan.proofs.laws.worked_plans.Goals as goal
+use Rattle.merge_plan.specs.WorkedPlans.{WorkedPlans}
+use Rattle.merge_plan.proofs.PlanLemmas.{planned-free, planned-kinds}
+use Rattle.merge_plan.proofs.laws.plans_are_exact.Goals as goal
 
-pub returns : goal.returns
-returns c = record {
+worked : WorkedPlans
+worked = record {
   level_1 = (refl, refl);
   level_2 = (refl, refl, refl);
   level_9 = (refl, refl);
@@ -27,4 +29,11 @@ returns c = record {
   first_mostly_deleted = refl;
   held_mostly_deleted = refl;
   levels_first = refl;
+}
+
+pub returns : goal.returns
+returns c = record {
+  worked = worked;
+  free = planned-free;
+  kinds = planned-kinds;
 }
