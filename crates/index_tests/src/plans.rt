@@ -43,9 +43,10 @@ fn sizes_of(alloc: Global, spelled: &str) -> Result<Vec<Size>, Fail>
         if last == 100 {
             return Err("too many".into());
         }
-        last += 1;
-        let size = size_of(word, last)?;
+        let generation = last + 1;
+        let size = size_of(word, generation)?;
         sizes.push(size)?;
+        last = generation;
     }
     Ok(sizes)
 }
