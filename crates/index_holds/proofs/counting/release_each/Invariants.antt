@@ -1,0 +1,12 @@
+-- The first are changed, and the rest are as they were.
+use Rattle.std.proofs.Common.{◌≡◌, ◌++◌, take, drop, map}
+use Rattle.index_holds.specs.Entries.{HaveHolders}
+use Rattle.index_holds.specs.Holders.{without_holder}
+use Rattle.index_holds.proofs.counting.release_each.Given as goal
+
+abbrev pub invariant-loop-entry : goal.invariant-loop-entry
+invariant-loop-entry l =
+    (take l.entry-index l.entry-items
+    ++ map (without_holder l.gens) (drop l.entry-index l.entry-items)
+    ≡ map (without_holder l.gens) l.initial.entry-items)
+    × HaveHolders l.gens (drop l.entry-index l.entry-items)

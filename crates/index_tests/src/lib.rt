@@ -1,0 +1,8 @@
+//! The tests of the crates of the index: worked examples, and each public call on its happy path.
+//! What a contract says isn't tested again.
+#![tactic(auto)]
+
+#[cfg(test)]
+mod counts;
+#[cfg(test)]
+mod plans;

@@ -1,0 +1,4 @@
+pub mod PassLemmas
+pub mod TogetherLemmas
+pub mod RisingLemmas
+pub mod PlanLemmas

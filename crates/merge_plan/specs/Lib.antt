@@ -1,0 +1,4 @@
+pub mod Merges
+pub mod Levels
+pub mod WorkedPlans
+pub mod PlanLaws
