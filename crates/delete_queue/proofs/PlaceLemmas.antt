@@ -150,7 +150,8 @@ dead_places applied upto batches docs sorted raw places moved is turned up =
     let dead = is_dead_in applied upto batches in
     let same : (d : PlainNumbered) → list_any (reaches d) (latest sorted) ≡ dead d =
     λ d. latest_reach d sorted
-    ∙ sym (list_any-IsPermutation (reaches d) (deletes_between applied upto batches) sorted moved) in
+    ∙ sym
+    (list_any-IsPermutation (reaches d) (deletes_between applied upto batches) sorted moved) in
     sorted_once raw places (places_from 0 dead docs) turned up (places_rise 0 dead docs)
     (λ i. ap (is_in i) is ∙ reached_in i (latest sorted) docs
     ∙ ap (is_in i) (places_agree 0 (λ d. list_any (reaches d) (latest sorted)) dead docs same))

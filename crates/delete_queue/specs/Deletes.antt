@@ -34,6 +34,7 @@ deletes_between applied upto batches =
 abbrev pub reaches : PlainNumbered → NumberedDelete → Bool
 reaches d e = bytes_eq d.document.id e.id && nat_lt d.seq e.seq
 
--- whether a delete of the batches whose number is over `applied` and at most upto reaches a document
+-- whether a delete of the batches reaches a document: one whose number is over `applied` and at
+-- most upto
 abbrev pub is_dead_in : ℕ → ℕ → List PlainBatch → PlainNumbered → Bool
 is_dead_in applied upto batches d = list_any (reaches d) (deletes_between applied upto batches)

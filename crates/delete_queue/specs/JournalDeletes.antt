@@ -25,4 +25,5 @@ DeletesSinceComplete =
     (journal : List PlainOp) (start applied upto last : ℕ) (batches : List PlainBatch)
     (d : PlainNumbered) → Cover journal start last batches
     → start ≤ applied → applied ≤ upto → upto ≤ last
-    → is_deleted journal upto d ≡ (is_deleted journal applied d || is_dead_in applied upto batches d)
+    → is_deleted journal upto d
+    ≡ (is_deleted journal applied d || is_dead_in applied upto batches d)
