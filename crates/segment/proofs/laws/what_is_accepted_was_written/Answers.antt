@@ -1,4 +1,5 @@
--- The header is that of its counts, the documents stand as they are written, and the rest is theirs.
+-- The header is that of its counts, the documents stand as they are written, and the rest is
+-- theirs.
 use Rattle.segment.proofs.OnlyLemmas.{accepted_is_written}
 use Rattle.segment.proofs.laws.what_is_accepted_was_written.Goals as goal
 
