@@ -87,13 +87,22 @@ fn all_live(alloc: Global, count: u32) -> Result<Live, Fail>
     Ok(live)
 }
 
+fn without(live: &Live, count: u32, dead: &[u32]) -> Result<Live, Fail>
+    requires counted { length live.now ≡ count }
+    requires within { All (λ place. place < count) dead.now }
+    ensures { IfOk result (λ later. length later ≡ count) }
+{
+    let later = live.with_dead(dead)?;
+    Ok(later)
+}
+
 /// The live docs of so many documents without those at these places, with blanks between them.
 pub fn live_of(alloc: Global, count: u32, spelled: &str) -> Result<Live, Fail>
     ensures { IfOk result (λ live. length live ≡ count) }
 {
     let dead = places_of(alloc, count, spelled)?;
     let live = all_live(alloc, count)?;
-    let live = live.with_dead(dead.as_slice())?;
+    let live = without(&live, count, dead.as_slice())?;
     Ok(live)
 }
 

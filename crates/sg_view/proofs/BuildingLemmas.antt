@@ -192,3 +192,15 @@ counted u bs (p ∷ ps) are = (
       (live_docs_or_all (piece_documents p) p.live_docs) ∙ are.0.live_docs,
   counted u bs ps are.1,
 )
+
+-- the same of what was built of the parts
+pub counted_in : (own parts : PlainParts) (ps : List PlainPiece) (bs : List PlainBatch)
+    (built : List LiveSegment) → own ≡ parts → AllByRecursion IsBuildablePiece parts.pieces
+    → ps ≡ own.pieces → bs ≡ own.batches → built ≡ map (piece_at own.upto bs) ps
+    → AllByRecursion IsCounted built
+counted_in own parts ps bs built same are pieces batches is =
+    let whole : AllByRecursion IsBuildablePiece ps =
+    subst (λ (z : List PlainPiece). AllByRecursion IsBuildablePiece z)
+    (sym (pieces ∙ ap (λ (q : PlainParts). q.pieces) same)) are in
+    subst (λ (z : List LiveSegment). AllByRecursion IsCounted z) (sym is)
+    (counted own.upto bs ps whole)

@@ -1,15 +1,12 @@
 -- What a view stands for. Source: Lucene's point-in-time readers, whose live docs are fixed.
-use Rattle.std.specs.Prelude.{◌≡◌, ◌≤◌, ◌<◌, ◌^◌, ℕ, Bool, not, List, length, map, filter}
+use Rattle.std.specs.Prelude.{◌≡◌, ◌≤◌, ℕ, Bool, not, List, length, map, filter}
 use Rattle.std.specs.List.{AllByRecursion}
-use Rattle.sg_paths.specs.Operations.{PlainOp, PlainNumbered, PlainBatch}
+use Rattle.sg_paths.specs.Operations.{PlainOp, PlainNumbered}
 use Rattle.sg_paths.specs.LiveDocuments.{is_deleted, live_documents}
 use Rattle.sg_answers.specs.Reports.{ViewedSegment, viewed_segment, live_in}
-use Rattle.seg_live.specs.LiveDocs.{live_without}
-use Rattle.seg_table.specs.Ids.{places_from}
 use Rattle.segment.specs.Items.{HaveSameItems}
-use Rattle.segment.specs.Pieces.{PlainPiece, piece_documents, live_docs_or_all}
+use Rattle.segment.specs.Pieces.{piece_documents}
 use Rattle.segment.specs.Views.{PlainParts}
-use Rattle.delete_queue.specs.Deletes.{is_dead_in}
 
 -- a segment of a view: its documents, and which of them are live
 pub record LiveSegment : Type 0 where

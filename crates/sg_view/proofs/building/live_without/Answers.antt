@@ -1,0 +1,13 @@
+-- Where none are said, all are live.
+use Rattle.std.proofs.Common.{◌≡◌, ◌∙◌, ap, List, Bool, length}
+use Rattle.std.specs.Prelude.{option_map}
+use Rattle.sg_paths.specs.Operations.{PlainNumbered}
+use Rattle.sg_view.proofs.BuildingLemmas.{all_live}
+use Rattle.sg_view.proofs.building.live_without.Goals as goal
+
+pub returns-in_ok-all-in-None : goal.returns-in_ok-all-in-None
+returns-in_ok-all-in-None c =
+    let count = c.len.ensures.value
+    ∙ ap (λ (ds : List PlainNumbered). length ds) c.table.ensures.documents in
+    let marks = c.in_ok-all-in-None.ensures ∙ all_live c.args.segment.now _ count in
+    rw c.in-None.is (rw (← marks) c.with_dead-in-None-2.ensures)
