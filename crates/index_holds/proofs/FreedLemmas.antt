@@ -221,6 +221,7 @@ freed_exactly gens new old after rise used rises held is =
     (up-filter p (map (λ h. h.generation) old) (up-generations old rise))
     (λ g. among-filter p g gens
     ∙ meets (is_among g gens) (is_held old g) (is_held after g) (held g)
-    (λ there other. subst (λ hs. is_held hs g ≡ true) (sym is) (stays gens new g old used there other))
+    (λ there other. subst (λ hs. is_held hs g ≡ true) (sym is)
+    (stays gens new g old used there other))
     ∙ sym (ap (λ b. b && p g) (among-generations g old))
     ∙ sym (among-filter p g (map (λ h. h.generation) old)))

@@ -17,7 +17,8 @@ use Rattle.index_holds.proofs.holds.Holds.release.Goals as goal
 
 rise : (gens : List ℕ) (hs : List Held) → Rise hs → Rise (map (without_holder gens) hs)
 rise gens hs up =
-    rise-map (without_holder gens) (λ h. generation-changed (is_among h.generation gens) _ h refl) hs up
+    rise-map (without_holder gens) (λ h. generation-changed (is_among h.generation gens) _ h refl) hs
+    up
 
 pub release_each-requires-clause-held : goal.release_each-requires-clause-held
 release_each-requires-clause-held c =
@@ -41,7 +42,8 @@ invariant_of-self c =
     let kept : length c.freed_of.new.entries.items ≤ length changed =
     subst (λ hs. length hs ≤ length changed) is (shorter is_used changed) in
     let n : length changed ≡ length old =
-    ap length c.release_each.ensures.items ∙ length-map old (without_holder c.as_slice.result.now) in (
+    ap length c.release_each.ensures.items
+    ∙ length-map old (without_holder c.as_slice.result.now) in (
       subst Rise is (rise-filter is_used changed (subst Rise (sym c.release_each.ensures.items)
           (rise c.as_slice.result.now old c.self.invariant.0))),
       subst AreUsed is (used-filter changed),

@@ -17,7 +17,8 @@ use Rattle.index_holds.proofs.holds.Holds.retire.Goals as goal
 
 rise : (gens : List ℕ) (hs : List Held) → Rise hs → Rise (map (without_current gens) hs)
 rise gens hs up =
-    rise-map (without_current gens) (λ h. generation-changed (is_among h.generation gens) _ h refl) hs up
+    rise-map (without_current gens) (λ h. generation-changed (is_among h.generation gens) _ h refl) hs
+    up
 
 pub retire_each-requires-clause-held : goal.retire_each-requires-clause-held
 retire_each-requires-clause-held c =
@@ -41,7 +42,8 @@ invariant_of-self c =
     let kept : length c.freed_of.new.entries.items ≤ length changed =
     subst (λ hs. length hs ≤ length changed) is (shorter is_used changed) in
     let n : length changed ≡ length old =
-    ap length c.retire_each.ensures.items ∙ length-map old (without_current c.as_slice.result.now) in (
+    ap length c.retire_each.ensures.items
+    ∙ length-map old (without_current c.as_slice.result.now) in (
       subst Rise is (rise-filter is_used changed (subst Rise (sym c.retire_each.ensures.items)
           (rise c.as_slice.result.now old c.self.invariant.0))),
       subst AreUsed is (used-filter changed),
@@ -73,7 +75,8 @@ returns-clause-freed c =
     c.freed_of.ensures.items
     ∙ ap (filter is_used) c.retire_each.ensures.items
     ∙ ap (λ gs. filter is_used (map (without_current gs) old)) c.as_slice.ensures.value in
-    let freed = freed_exactly gens (λ h. record h { current = false; holders = h.holders - 1 }) old after
+    let freed = freed_exactly gens (λ h. record h { current = false; holders = h.holders - 1 })
+    old after
     c.self.invariant.0 c.self.invariant.1 c.requires.rising
     (λ g there. held_of_entry (λ h. 0 < h.holders) g old
     (all_among (HasHolder old) gens g held there)) is in
