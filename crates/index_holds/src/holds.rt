@@ -1,13 +1,12 @@
 //! Counts of what holds each generation.
-ghost use Rattle.std.specs.Prelude.{◌≡◌, ◌<◌, ◌+◌, [], All, OnErr, OnOk, false, max, vec_len};
+ghost use Rattle.std.specs.Prelude.{◌≡◌, ◌<◌, ◌+◌, [], All, OnErr, OnOk, false, filter, map, max};
+ghost use Rattle.std.specs.Prelude.{vec_len};
 ghost use Rattle.std.specs.List.Sorted.{IsStrictlyIncreasing};
 ghost use Rattle.std.specs.Vec.{vec_capacity};
 ghost use Rattle.index_holds.specs.Entries.{Rise, unheld};
 ghost use Rattle.index_holds.specs.Holders.{after_release, after_retire, given_up, HasHolder};
-ghost use Rattle.index_holds.specs.Holders.{HasRoom, IsCurrentAndHeld, is_held, with_current};
-ghost use Rattle.index_holds.specs.Holders.{with_holder};
-ghost use Rattle.std.specs.Prelude.{map, filter};
-ghost use Rattle.index_holds.specs.Holders.{is_used};
+ghost use Rattle.index_holds.specs.Holders.{HasRoom, IsCurrentAndHeld, is_held, is_used};
+ghost use Rattle.index_holds.specs.Holders.{with_current, with_holder};
 
 use crate::counting::{hold_each, release_each, retire_each};
 use crate::filtering::{keep_unheld, keep_used};

@@ -1,8 +1,6 @@
 //! Generations found by halving.
-ghost use Rattle.std.specs.Prelude.{◌≡◌, ◌≤◌, false, insert, length};
-ghost use Rattle.std.specs.List.Sorted.{IsStrictlyIncreasing, IsPartitionPoint};
-ghost use Rattle.std.specs.Prelude.{◌<◌};
-ghost use Rattle.std.specs.Vec.{vec_capacity};
+ghost use Rattle.std.specs.Prelude.{◌≡◌, ◌<◌, ◌≤◌, length};
+ghost use Rattle.std.specs.List.Sorted.{IsPartitionPoint, IsStrictlyIncreasing};
 ghost use Rattle.index_holds.specs.Entries.{Rise};
 ghost use Rattle.index_holds.specs.Holders.{is_among, is_held};
 

@@ -69,7 +69,7 @@ going-taken {level = level} {sizes = sizes} {i = i} {free = free} d free' docume
     ∙ taken (is_of level) free s (drop (i + 1) sizes) some tests.1
     ∙ ap (λ n. s ∷ take n later) same in
     let n : length (take free (filter (is_of level) (drop i sizes)))
-        ≡ length (s ∷ take free' later) =
+    ≡ length (s ∷ take free' later) =
     ap length all in
     let ds : sum_by (λ z. z.documents) (take free (filter (is_of level) (drop i sizes)))
     ≡ s.documents + sum_by (λ z. z.documents) (take free' later) =

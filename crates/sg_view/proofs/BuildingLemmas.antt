@@ -97,7 +97,7 @@ covers : (journal : List PlainOp) (start upto : ℕ) (bs : List PlainBatch)
     → Cover journal start upto bs → IsCover journal start upto bs
 covers journal start upto bs c = record {
   numbered = consecutive (start + 1) bs c.numbered;
-  operations = c.operations
+  operations = c.operations;
 }
   where
     consecutive : (n : ℕ) (bs : List PlainBatch) → Rattle.segment.specs.Batches.AreConsecutive n bs
@@ -159,7 +159,7 @@ represents journal parts are =
           own.known own.applied;
       live = λ f. ap (total_of f)
           (live_all journal parts.upto own.start parts.batches parts.pieces own.covered own.known
-          own.applied) ∙ are.live f
+          own.applied) ∙ are.live f;
     }
 
 same_generations : (u : ℕ) (bs : List PlainBatch) (ps : List PlainPiece)

@@ -17,8 +17,8 @@ use Rattle.index_holds.proofs.holds.Holds.release.Goals as goal
 
 rise : (gens : List ℕ) (hs : List Held) → Rise hs → Rise (map (without_holder gens) hs)
 rise gens hs up =
-    rise-map (without_holder gens) (λ h. generation-changed (is_among h.generation gens) _ h refl) hs
-    up
+    rise-map (without_holder gens)
+    (λ h. generation-changed (is_among h.generation gens) _ h refl) hs up
 
 pub release_each-requires-clause-held : goal.release_each-requires-clause-held
 release_each-requires-clause-held c =

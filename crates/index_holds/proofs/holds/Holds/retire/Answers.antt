@@ -17,8 +17,8 @@ use Rattle.index_holds.proofs.holds.Holds.retire.Goals as goal
 
 rise : (gens : List ℕ) (hs : List Held) → Rise hs → Rise (map (without_current gens) hs)
 rise gens hs up =
-    rise-map (without_current gens) (λ h. generation-changed (is_among h.generation gens) _ h refl) hs
-    up
+    rise-map (without_current gens)
+    (λ h. generation-changed (is_among h.generation gens) _ h refl) hs up
 
 pub retire_each-requires-clause-held : goal.retire_each-requires-clause-held
 retire_each-requires-clause-held c =
