@@ -92,6 +92,9 @@ fn answer_group(
         time_sort(rt, segment.table().docs())?;
         return time_bytes(rt, segment);
     }
+    if group.queries.is_empty() {
+        return Ok(());
+    }
     if title.starts_with("starts") {
         return time_starts(rt, title, segment, group.queries.as_slice());
     }

@@ -40,7 +40,7 @@ pub fn read_documents<R: BufRead>(alloc: Global, source: &mut R) -> io::Result<V
         let Some(line) = next_line(alloc, source)? else {
             break;
         };
-        let document = document_of(alloc, line.as_str())?;
+        let document = document_of(alloc, line.as_str(), seq)?;
         documents.push(Numbered { seq, document })?;
     }
     Ok(documents)
@@ -88,9 +88,9 @@ fn suggestion_of(alloc: Global, line: &str) -> io::Result<Suggestion> {
     }
 }
 
-fn document_of(alloc: Global, line: &str) -> io::Result<Document> {
+fn document_of(alloc: Global, line: &str, seq: u64) -> io::Result<Document> {
     let suggestion = suggestion_of(alloc, line)?;
-    let id = Text::of(alloc, "d")?;
+    let id = Text::of(alloc, format!(in alloc; "n{seq}")?.as_str())?;
     match Document::new(id, vec![in alloc; suggestion]?) {
         Ok(document) => Ok(document),
         Err(_) => Err(invalid()),
