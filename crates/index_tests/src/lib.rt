@@ -5,4 +5,6 @@
 #[cfg(test)]
 mod counts;
 #[cfg(test)]
+mod deletes;
+#[cfg(test)]
 mod plans;
