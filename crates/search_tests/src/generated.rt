@@ -9,15 +9,21 @@ use segment::Segment;
 use sg_answers::{MOST_QUEUED, NumberedRef, first_rows};
 use sg_base::{Cut, Rank};
 use sg_context::{Query, boost_of};
-use sg_paths::{MOST_SEGMENT_DOCUMENTS, MOST_SEGMENT_PATHS, Numbered, Path, paths_at_most, paths_of};
+use sg_paths::{
+    MOST_SEGMENT_DOCUMENTS, MOST_SEGMENT_PATHS, Numbered, Path, paths_at_most, paths_of,
+};
 use std::alloc::Global;
 use std::process::Abort;
 use std::test::Fail;
 
 const KEYS: &str = "a|ab|abc|abd|ac|aba|b|ba";
+
 const ONE_CONTEXT: &str = "|@p|@q|@p";
+
 const CONTEXTS: &str = "@r|@p|@q|@p,q";
+
 const PREFIXES: &str = ".|a|ab|b";
+
 const ASKED: &str = "| p=1| p=2 q=1| *=3| q=2 p=1 r=2| r=1| =2 p=1|";
 
 // A linear congruential generator.
@@ -116,7 +122,12 @@ fn case_of(alloc: Global, numbers: &mut Numbers) -> Result<Case, Fail> {
 }
 
 // The first rows of the live documents, by a look at each of them.
-fn plain_rows(alloc: Global, query: &Query, segment: &Segment, live: &Live) -> Result<Vec<Rank>, Fail>
+fn plain_rows(
+    alloc: Global,
+    query: &Query,
+    segment: &Segment,
+    live: &Live,
+) -> Result<Vec<Rank>, Fail>
     requires { length live.now ≡ length segment.now }
 {
     let table = segment.table();
@@ -160,8 +171,9 @@ fn plain_queue_size(k: u32, most: usize, documents: u32, live: u32) -> u128 {
     let paths = u128::from(k)
         .saturating_mul(most as u128)
         .saturating_mul(u128::from(documents));
-    (paths / u128::from(live) + u128::from(paths % u128::from(live) > 0))
-        .min(u128::from(MOST_QUEUED))
+    (paths / u128::from(live) + u128::from(paths % u128::from(live) > 0)).min(u128::from(
+        MOST_QUEUED,
+    ))
 }
 
 fn has_at_least(query: &Query, path: &Path, score: u64) -> bool {
@@ -216,14 +228,26 @@ fn is_truncated(
     let mut wanted = plain_rows(alloc, query, segment, live)?;
     let Some(cut) = &report.cut else {
         let told = shown_hits(alloc, segment.table().docs(), report.hits.items())?;
-        assert_eq!(rt; told.as_str(), shown_ranks(alloc, wanted.as_slice())?.as_str());
+        assert_eq!(rt;
+            told.as_str(),
+            shown_ranks(alloc, wanted.as_slice())?.as_str()
+        );
         return Ok(false);
     };
     wanted.retain(|row| precedes(row, cut));
     let told = shown_hits(alloc, segment.table().docs(), report.hits.items())?;
-    assert_eq!(rt; told.as_str(), shown_ranks(alloc, wanted.as_slice())?.as_str());
-    assert!(rt; report.hits.items().len() < query.k as usize, "fewer rows than asked for");
-    assert!(rt; is_spent(alloc, query, segment, live, cut)?, "the queue was spent");
+    assert_eq!(rt;
+        told.as_str(),
+        shown_ranks(alloc, wanted.as_slice())?.as_str()
+    );
+    assert!(rt;
+        report.hits.items().len() < query.k as usize,
+        "fewer rows than asked for"
+    );
+    assert!(rt;
+        is_spent(alloc, query, segment, live, cut)?,
+        "the queue was spent"
+    );
     Ok(true)
 }
 

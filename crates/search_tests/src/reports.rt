@@ -10,9 +10,7 @@ fn key_of_hit<'d>(docs: &'d [Numbered], hit: &Hit) -> Result<&'d Key, Fail> {
     let numbered = docs.get(hit.doc as usize).ok_or("no document")?;
     let document = &numbered.document;
     let suggestions = document.suggestions.items();
-    let suggestion = suggestions
-        .get(hit.place as usize)
-        .ok_or("no suggestion")?;
+    let suggestion = suggestions.get(hit.place as usize).ok_or("no suggestion")?;
     Ok(&suggestion.key)
 }
 
@@ -39,7 +37,13 @@ pub fn shown_hits(alloc: Global, docs: &[Numbered], hits: &[Hit]) -> Result<Stri
 pub fn shown_ranks(alloc: Global, ranks: &[Rank]) -> Result<String, Fail> {
     let mut told = String::new(alloc);
     for rank in ranks {
-        push_row(&mut told, rank.key.as_slice(), rank.score, rank.seq, rank.place)?;
+        push_row(
+            &mut told,
+            rank.key.as_slice(),
+            rank.score,
+            rank.seq,
+            rank.place,
+        )?;
     }
     Ok(told)
 }

@@ -43,5 +43,5 @@ is_segment docs table text same rise few legal maps sound contexts =
     subst (λ (z : List PlainNumbered). IsSegment z (nodes_of text)) (sym same) (record {
       documents = record { legal = legal; few = few; rising = rising docs rise };
       mapping = record { transducer = sound; maps = maps };
-      contexts = contexts
+      contexts = contexts;
     })

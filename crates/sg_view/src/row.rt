@@ -26,7 +26,8 @@ impl View {
     pub fn row(&self, hit: &Hit) -> Row<'_>
         requires { HasHit self.now.segments hit.now }
         ensures id { result.id.now ≡ (hit_document self.entry.now.segments hit.entry.now).id }
-        ensures text { result.text.now ≡ (hit_suggestion self.entry.now.segments hit.entry.now).text }
+        ensures text { result.text.now
+            ≡ (hit_suggestion self.entry.now.segments hit.entry.now).text }
         ensures key { result.key.now ≡ hit_key self.entry.now.segments hit.entry.now }
         ensures score { result.score ≡ hit.entry.now.score }
         ensures seq { result.seq ≡ hit.entry.now.seq }
