@@ -15,13 +15,13 @@ use Rattle.seg_table.specs.Ids.{places_from}
 use Rattle.segment.specs.Batches.{Cover}
 use Rattle.segment.specs.Items.{total_of}
 use Rattle.segment.specs.Pieces.{PlainPiece, piece_documents, live_docs_or_all}
-use Rattle.segment.specs.Views.{PlainParts, IsApplied, all_documents, AreCovered, AreParts}
+use Rattle.segment.specs.Views.{PlainParts, IsApplied, all_documents, AreParts}
 use Rattle.segment.specs.Views.{IsBuildablePiece}
 use Rattle.delete_queue.specs.Deletes.{is_dead_in}
 use Rattle.delete_queue.specs.JournalDeletes.{Cover as IsCover}
 use Rattle.delete_queue.proofs.JournalLemmas.{deletes_since}
 use Rattle.delete_queue.proofs.RisingLemmas.{is_in, not_below, places_rise}
-use Rattle.sg_view.specs.Viewing.{LiveSegment, seen_segment, PlainView, viewed_segments}
+use Rattle.sg_view.specs.Viewing.{LiveSegment, seen_segment}
 use Rattle.sg_view.specs.Viewing.{Represents, IsViewOf}
 use Rattle.sg_view.specs.Building.{piece_at, built_view, IsCounted}
 
@@ -115,7 +115,8 @@ piece_live : (journal : List PlainOp) (u start : ℕ) (bs : List PlainBatch) (p 
 piece_live journal u start bs p covered known is =
     let ds = piece_documents p in
     let a = p.applied in
-    ap (λ (ms : List Bool). live_of ds (live_without 0 (places_from 0 (is_dead_in a u bs) ds) ms)) is
+    ap (λ (ms : List Bool). live_of ds
+    (live_without 0 (places_from 0 (is_dead_in a u bs) ds) ms)) is
     ∙ ap (λ (ms : List Bool). live_of ds ms)
     (live_without-places 0 (is_dead_in a u bs) (is_live journal a) ds
     ∙ map_agree (λ d. is_live journal a d && not (is_dead_in a u bs d)) (is_live journal u) ds

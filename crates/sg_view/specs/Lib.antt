@@ -1,3 +1,4 @@
 pub mod PlainParts
 pub mod Viewing
 pub mod Building
+pub mod Rows

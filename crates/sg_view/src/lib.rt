@@ -4,10 +4,12 @@
 #![tactic(auto)]
 
 mod building;
+mod row;
 mod segment_parts;
 mod ticket;
 mod view;
 
+pub use row::Row;
 pub use segment_parts::SegmentParts;
 pub use ticket::Ticket;
 pub use view::View;

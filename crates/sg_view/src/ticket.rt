@@ -50,8 +50,8 @@ impl Ticket {
         self.parts.upto
     }
 
-    /// Builds segments of unbuilt batches, and applies the deletes up to the last operation that the
-    /// view sees. Want of memory hands the ticket back.
+    /// Builds segments of unbuilt batches, and applies the deletes up to the last operation that
+    /// the view sees. Want of memory hands the ticket back.
     pub fn build(self) -> Result<View, Ticket>
         ensures ok { IfOk result (IsViewOf self) }
         ensures represents { IfOk result (λ v. (journal : List PlainOp)

@@ -1,7 +1,8 @@
 //! Views.
-ghost use Rattle.std.specs.Prelude.{◌≡◌, ◌<◌, ◌^◌, [], length};
+ghost use Rattle.std.specs.Prelude.{◌≡◌, ◌<◌, ◌^◌, [], length, get_or};
 ghost use Rattle.std.specs.List.{AllByRecursion};
 ghost use Rattle.sg_view.specs.Building.{IsCounted};
+ghost use Rattle.sg_view.specs.Rows.{no_segment};
 
 use seg_live::Live;
 use segment::{Segment, ViewParts};
@@ -80,6 +81,15 @@ impl View {
             segments: List::of(segments),
             gens,
         }
+    }
+
+    /// The segment at a place.
+    pub(crate) fn viewed(&self, piece: u32) -> &Viewed
+        requires { piece < length self.now.segments }
+        ensures { result.now ≡ get_or self.entry.now.segments piece no_segment }
+    {
+        let segments = self.segments.items();
+        &segments[piece as usize]
     }
 
     /// How many operations it sees.

@@ -1,6 +1,5 @@
 -- Where none are said, all are live.
-use Rattle.std.proofs.Common.{◌≡◌, ◌∙◌, ap, List, Bool, length}
-use Rattle.std.specs.Prelude.{option_map}
+use Rattle.std.proofs.Common.{◌∙◌, ap, List, length}
 use Rattle.sg_paths.specs.Operations.{PlainNumbered}
 use Rattle.sg_view.proofs.BuildingLemmas.{all_live}
 use Rattle.sg_view.proofs.building.live_without.Goals as goal

@@ -1,8 +1,7 @@
 -- The built view is that of the parts.
-use Rattle.std.proofs.Common.{◌≡◌, ◌∙◌, ap, sym, subst, List, map, refl}
-use Rattle.sg_paths.specs.Operations.{PlainBatch, PlainOp}
+use Rattle.std.proofs.Common.{◌≡◌, ◌∙◌, ap, sym, subst, List, map}
 use Rattle.segment.specs.Pieces.{PlainPiece}
-use Rattle.segment.specs.Views.{PlainParts, AreParts}
+use Rattle.segment.specs.Views.{PlainParts}
 use Rattle.sg_view.specs.Viewing.{PlainView, LiveSegment, IsViewOf, Represents}
 use Rattle.sg_view.specs.Building.{piece_at, built_view}
 use Rattle.sg_view.proofs.BuildingLemmas.{represents, is_view_of, counted_in}
@@ -23,7 +22,8 @@ built c =
     let p = parts_of c in
     let segments : c.in-Ok.segments.items ≡ map (piece_at p.upto p.batches) p.pieces =
     c.in-Ok.ensures
-    ∙ ap (λ (ps : List PlainPiece). map (piece_at p.upto (map (λ b. b.value) c.items-2.result.now)) ps)
+    ∙ ap (λ (ps : List PlainPiece).
+    map (piece_at p.upto (map (λ b. b.value) c.items-2.result.now)) ps)
     c.items.ensures
     ∙ ap (λ bs. map (piece_at p.upto (map (λ b. b.value) bs)) p.pieces) c.items-2.ensures in
     c.new.ensures
@@ -41,7 +41,8 @@ returns-clause-ok c =
 
 pub returns-clause-represents : goal.returns-clause-represents
 returns-clause-represents c = λ journal are.
-    subst (λ (v : PlainView). Represents journal v) (sym (built c)) (represents journal c.args.self are)
+    subst (λ (v : PlainView). Represents journal v) (sym (built c))
+    (represents journal c.args.self are)
 
 pub new-requires-clause-counted : goal.new-requires-clause-counted
 new-requires-clause-counted c =
