@@ -25,7 +25,7 @@ use Rattle.seg_bytes.proofs.BackLemmas.{both, with_result, number_1, number_4, n
 use Rattle.seg_bytes.proofs.BackLemmas.{text_2, tested_back, many_back}
 
 -- a second test bounds a number
-below : (b : Bool) (n most : ℕ) → (b && nat_le n most) ≡ true → n ≤ most
+pub below : (b : Bool) (n most : ℕ) → (b && nat_le n most) ≡ true → n ≤ most
 below b n most h = leb-true n most (and_parts b (nat_le n most) h).1
 
 key_fits : (key : List ℕ) → may_be_key key ≡ true → length key < 256
@@ -103,7 +103,7 @@ suggestions_back [] a = tt
 suggestions_back (s ∷ ss) a = (suggestion_back s a.0, suggestions_back ss a.1)
 
 -- a document likewise
-document_back : (d : PlainNumbered) → IsWritable d → IsReadBack document_at (document_bytes d) d
+pub document_back : (d : PlainNumbered) → IsWritable d → IsReadBack document_at (document_bytes d) d
 unfolding document_at document_bytes
 document_back d h =
     let id = d.document.id in

@@ -7,3 +7,5 @@ pub mod BackLemmas
 pub mod BackDocuments
 pub mod OnlyLemmas
 pub mod OnlyDocuments
+pub mod SteppingLemmas
+pub mod PackedLemmas

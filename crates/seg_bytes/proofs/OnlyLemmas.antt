@@ -36,7 +36,7 @@ IsRead : {A : Type 0} → Reading A → Type 0
 IsRead (reads x end) = Unit {0}
 IsRead (broken at) = ⊥
 
-not_broken : {A : Type 0} (at : ℕ) (x : A) (end : ℕ) → broken at ≡ reads x end → ⊥
+pub not_broken : {A : Type 0} (at : ℕ) (x : A) (end : ℕ) → broken at ≡ reads x end → ⊥
 unfolding IsRead
 not_broken at x end h = subst IsRead (sym h) tt
 

@@ -5,4 +5,5 @@ pub mod DocumentsRead
 pub mod Numbers
 pub mod Answers
 pub mod Laws
+pub mod Packed
 pub mod Example

@@ -11,8 +11,10 @@ mod laws;
 mod lengths;
 mod limits;
 mod numbers;
+mod packed;
 mod pushing;
 mod reading;
+mod stepping;
 mod texts;
 mod values;
 mod writing;
@@ -26,4 +28,5 @@ pub use laws::{
 pub use lengths::documents_len;
 pub use limits::{MOST_SEQ, limits_are_exact};
 pub use numbers::misplaced_number;
+pub use packed::PackedDocuments;
 pub use writing::put_documents;

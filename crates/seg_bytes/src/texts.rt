@@ -22,6 +22,17 @@ fn utf8(bytes: &[u8]) -> Option<&str>
     }
 }
 
+/// The text that bytes are.
+pub(crate) fn known_text(bytes: &[u8]) -> &str
+    requires { is_utf8 bytes.now ≡ true }
+    ensures { result.now ≡ bytes.entry.now }
+{
+    let Some(text) = utf8(bytes) else {
+        unreachable!()
+    };
+    text
+}
+
 /// The text of a field that begins at `start`.
 pub(crate) fn text_of(alloc: Global, bytes: &[u8], start: usize) -> Result<Text, ReadError>
     ensures { Takes may_be_text bytes.now start result }
