@@ -8,12 +8,14 @@ ghost use Rattle.seg_table.specs.Owners.{greatest};
 use crate::owner::Owner;
 use std::alloc::{AllocError, Global};
 
-fn add_one(counts: &mut Vec<u32>, at: usize)
-    requires within { at < length counts.old.items }
-    requires fits { get_or counts.old.items at 0 < 4294967295 }
-    ensures { counts.new.items ≡ set counts.old.items at (get_or counts.old.items at 0 + 1) }
+/// Counts a path for the document of its owner.
+fn add_path(counts: &mut Vec<u32>, owner: Owner)
+    requires within { owner.doc < length counts.old.items }
+    requires fits { get_or counts.old.items owner.doc 0 < 4294967295 }
+    ensures { counts.new.items
+        ≡ set counts.old.items owner.doc (get_or counts.old.items owner.doc 0 + 1) }
 {
-    counts[at] += 1;
+    counts[owner.doc as usize] += 1;
 }
 
 /// How many of the owners each of so many documents has.
@@ -24,7 +26,7 @@ fn owner_counts(alloc: Global, documents: usize, owners: &[Owner]) -> Result<Vec
 {
     let mut counts = vec![in alloc; 0u32; documents]?;
     for owner in owners {
-        add_one(&mut counts, owner.doc as usize);
+        add_path(&mut counts, *owner);
     }
     Ok(counts)
 }

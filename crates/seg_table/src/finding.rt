@@ -3,7 +3,7 @@ ghost use Rattle.std.specs.Prelude.{◌≡◌, ◌≤◌, ◌<◌, ◌+◌, ℕ,
 ghost use Rattle.sg_paths.specs.Operations.{PlainNumbered};
 ghost use Rattle.seg_table.specs.Ids.{id_of, is_within};
 
-use sg_paths::Numbered;
+use seg_bytes::PackedDocuments;
 
 /// How far into the index an id reaches.
 #[derive(Clone, Copy, Debug)]
@@ -14,23 +14,21 @@ pub(crate) enum Reach {
     Through,
 }
 
-fn is_within(reach: Reach, wanted: &str, id: &str) -> bool
+fn is_within(reach: Reach, wanted: &str, id: &[u8]) -> bool
     ensures { result ≡ is_within reach wanted.now id.now }
 {
-    let order = id.as_bytes().cmp(wanted.as_bytes());
+    let order = id.cmp(wanted.as_bytes());
     match reach {
         Reach::Before => order.is_lt(),
         Reach::Through => order.is_le(),
     }
 }
 
-fn id_at(docs: &[Numbered], place: u32) -> &str
+fn id_at(docs: &PackedDocuments, place: u32) -> &[u8]
     requires { place < length docs.now }
     ensures { result.now ≡ id_of docs.entry.now place }
 {
-    let numbered = &docs[place as usize];
-    let document = &numbered.document;
-    document.id.as_str()
+    docs.id_bytes(place)
 }
 
 fn place_at(ids: &[u32], at: usize) -> u32
@@ -41,7 +39,7 @@ fn place_at(ids: &[u32], at: usize) -> u32
 }
 
 /// How much of the index an id reaches past.
-pub(crate) fn count_within(docs: &[Numbered], ids: &[u32], reach: Reach, wanted: &str) -> usize
+pub(crate) fn count_within(docs: &PackedDocuments, ids: &[u32], reach: Reach, wanted: &str) -> usize
     requires places { (k : ℕ) → k < length ids.now → get_or ids.now k 0 < length docs.now }
     requires falls { (i j : ℕ) → i ≤ j → j < length ids.now
         → is_within reach wanted.now (id_of docs.now (get_or ids.now j 0)) ≡ true

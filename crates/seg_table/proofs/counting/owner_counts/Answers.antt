@@ -31,8 +31,8 @@ pub loop-owner-init : goal.loop-owner-init
 loop-owner-init c = c.in_ok-counts.ensures.items_if_clones_equal (λ y h. h)
     ∙ sym (counts_none 0 c.args.documents)
 
-pub add_one-requires-clause-fits : goal.add_one-requires-clause-fits
-add_one-requires-clause-fits c =
+pub add_path-requires-clause-fits : goal.add_path-requires-clause-fits
+add_path-requires-clause-fits c =
     fits c.args.documents c.args.owners.now c.loop-owner.owner-index _ c.loop-owner.counts.items
     c.loop-owner.invariant
     (All-get_or (λ (o : Owner). o.doc < c.args.documents) c.args.owners.now c.loop-owner.owner-index
@@ -47,4 +47,4 @@ loop-owner-preserved c =
     (omega arith) refl
     (All-get_or (λ (o : Owner). o.doc < c.args.documents) c.args.owners.now c.loop-owner.owner-index
     (record { doc = 0; place = 0 }) (omega arith) c.requires.within)
-    c.loop-owner.invariant c.add_one.ensures
+    c.loop-owner.invariant c.add_path.ensures

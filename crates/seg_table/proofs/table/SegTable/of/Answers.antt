@@ -26,7 +26,8 @@ pub invariant_of-result : goal.invariant_of-result
 invariant_of-result c =
     let owned : c.in_ok-owners.owners.items ≡ map owner_of (all_paths c.args.docs.items) =
     c.in_ok-owners.ensures ∙ ap (λ (ps : List FullPath). map owner_of ps) c.requires.paths in
-    made c.args.docs.items c.of.result.items _ _ _ c.of.ensures.items (record {
+    made c.args.docs.items c.in_ok-packed.packed _ _ _
+    (c.in_ok-packed.ensures ∙ c.as_slice-3.ensures.value) (record {
       owned = owned;
       indexed = c.in_ok-ids.ensures ∙ ap (λ (ds : List PlainNumbered). id_index ds)
           c.as_slice.ensures.value;
