@@ -18,7 +18,7 @@ use std::sync::Arc;
 fn is_before(table: &SegTable, place: u32, seq: u64) -> bool
     ensures { result ≡ is_before seq table.now place }
 {
-    place < table.len() && table.doc(place).seq < seq
+    place < table.len() && table.seq(place) < seq
 }
 
 fn push_if_before(

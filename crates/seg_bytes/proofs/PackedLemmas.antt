@@ -45,18 +45,17 @@ length-starts_from at [] = refl
 length-starts_from at (d ∷ ds) = ap suc (length-starts_from (at + length (document_bytes d)) ds)
 
 -- documents are packed by their bytes and offsets
-pub packed_of : (docs : List PlainNumbered) (bytes starts : List ℕ) (end : ℕ)
+pub packed_of : (docs : List PlainNumbered) (bytes starts : List ℕ)
     → length docs ≤ MOST_SEGMENT_DOCUMENTS → AllByRecursion IsWritable docs
+    → length (documents_bytes docs) ≤ 65536 * length docs
     → bytes ≡ documents_bytes docs → starts ≡ starts_from 0 docs
-    → end ≡ length (documents_bytes docs) → end ≤ 65536 * length docs
     → (documents_in (length starts) bytes ≡ docs)
     × IsPacked (documents_in (length starts) bytes) bytes starts
-packed_of docs bytes starts end few writable whole begins last most =
+packed_of docs bytes starts few writable most whole begins =
     let many : length starts ≡ length docs = ap length begins ∙ length-starts_from 0 docs in
     let same = documents_are docs writable (length starts) bytes many whole in
     let bound : length bytes ≤ 65536 * length docs =
-    (let all : length bytes ≡ length (documents_bytes docs) = ap length whole in
-    omega (arith, all, last, most)) in (
+    subst (λ (z : List ℕ). length z ≤ 65536 * length docs) (sym whole) most in (
       same,
       subst (λ (z : List PlainNumbered). IsPacked z bytes starts) (sym same) (record {
         whole = whole;

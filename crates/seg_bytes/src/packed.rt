@@ -17,7 +17,7 @@ use crate::stepping::{
     SuggestionParts, behind, behind_suggestions, id_in, seq_in, suggestion_parts, suggestions_in,
 };
 use crate::texts::known_text;
-use crate::writing::put_each;
+use crate::writing::put_documents;
 use sg_paths::Numbered;
 use std::alloc::{AllocError, Global};
 use std::marker::Model;
@@ -43,18 +43,12 @@ impl Model for PackedDocuments {
         p.bytes.items p.starts.items };
 }
 
-/// Where documents begin, and where the last ends.
-#[derive(Drop)]
-struct Starts {
-    starts: Vec<usize>,
-    end: usize,
-}
-
-fn starts_of(alloc: Global, docs: &[Numbered]) -> Result<Starts, AllocError>
+/// Where each document begins.
+fn starts_of(alloc: Global, docs: &[Numbered]) -> Result<Vec<usize>, AllocError>
     requires { length docs.now ≤ MOST_SEGMENT_DOCUMENTS }
-    ensures starts { IfOk result (λ s. s.starts.items ≡ starts_from 0 docs.now) }
-    ensures end { IfOk result (λ s. s.end ≡ length (documents_bytes docs.now)) }
-    ensures most { IfOk result (λ s. s.end ≤ 65536 * length docs.now) }
+    ensures value { IfOk result (λ starts. starts.items ≡ starts_from 0 docs.now) }
+    ensures most { IfOk result
+        (λ _. length (documents_bytes docs.now) ≤ 65536 * length docs.now) }
     ensures writable { IfOk result (λ _. AllByRecursion IsWritable docs.now) }
 {
     let mut starts = Vec::with_capacity(alloc, docs.len())?;
@@ -63,7 +57,7 @@ fn starts_of(alloc: Global, docs: &[Numbered]) -> Result<Starts, AllocError>
         push(&mut starts, end)?;
         end += document_len(numbered);
     }
-    Ok(Starts { starts, end })
+    Ok(starts)
 }
 
 fn start_at(starts: &[usize], doc: u32) -> usize
@@ -79,9 +73,9 @@ impl PackedDocuments {
         requires { length docs.now ≤ MOST_SEGMENT_DOCUMENTS }
         ensures { IfOk result (λ p. p ≡ docs.now) }
     {
-        let Starts { starts, end } = starts_of(alloc, docs)?;
-        let mut bytes = Vec::with_capacity(alloc, end)?;
-        put_each(&mut bytes, docs)?;
+        let starts = starts_of(alloc, docs)?;
+        let mut bytes = Vec::new(alloc);
+        put_documents(&mut bytes, docs)?;
         Ok(PackedDocuments { bytes, starts })
     }
 

@@ -118,8 +118,7 @@ fn put_document(out: &mut Vec<u8>, numbered: &Numbered) -> Result<(), AllocError
     put_suggestions(out, suggestions)
 }
 
-/// Appends documents.
-pub(crate) fn put_each(out: &mut Vec<u8>, docs: &[Numbered]) -> Result<(), AllocError>
+fn put_each(out: &mut Vec<u8>, docs: &[Numbered]) -> Result<(), AllocError>
     ensures appended { OnOk result (out.new.items ≡ out.old.items ++ documents_bytes docs.now) }
     ensures room { vec_capacity out.old ≤ vec_capacity out.new }
     ensures full { OnErr result (vec_capacity out.old

@@ -23,7 +23,6 @@ use crate::documents::documents_of;
 use crate::laws::what_was_written_is_accepted;
 use crate::writing::written;
 use fst_code::{CodeError, Transducer};
-use seg_bytes::documents_len;
 use seg_table::SegTable;
 use sg_base::Bytes;
 use sg_paths::{Batch, MOST_SEGMENT_PATHS, Numbered, Path, paths_at_most, paths_of};
@@ -122,7 +121,7 @@ impl Segment {
     {
         let bytes = self.write()?;
         let _ = bytes.as_slice();
-        let _ = documents_len(self.table.docs());
+        let _ = self.table.bytes();
         what_was_written_is_accepted();
         match Segment::check(self.alloc, bytes) {
             Ok(segment) => Ok(segment),

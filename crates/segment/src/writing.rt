@@ -2,7 +2,6 @@
 ghost use Rattle.std.specs.Prelude.{◌≡◌, ◌≤◌, ◌++◌, IfOk, OnOk, length};
 ghost use Rattle.std.specs.Int.{to_be_bytes, w32, w64};
 ghost use Rattle.std.specs.List.{flat_map};
-ghost use Rattle.sg_paths.specs.declared.limits.TheConstants.{MOST_SEGMENT_DOCUMENTS};
 ghost use Rattle.sg_paths.specs.declared.limits.TheConstants.{MOST_SEGMENT_PATHS};
 ghost use Rattle.sg_paths.specs.AllPaths.{all_paths};
 ghost use Rattle.segment.specs.SegmentBytes.{header_bytes, owner_bytes, rest_bytes};
@@ -10,9 +9,7 @@ ghost use Rattle.segment.specs.SegmentBytes.{segment_bytes};
 
 use crate::layout::{HEADER, OWNER, PLACE};
 use fst_code::put_number;
-use seg_bytes::{documents_len, put_documents};
 use seg_table::{Owner, SegTable};
-use sg_paths::Numbered;
 use std::alloc::{AllocError, Global};
 
 fn put_owner(out: &mut Vec<u8>, owner: Owner) -> Result<(), AllocError>
@@ -60,11 +57,12 @@ pub(crate) fn put_rest(out: &mut Vec<u8>, table: &SegTable, text: &[u8]) -> Resu
 }
 
 /// How many bytes a segment has.
-fn segment_len(docs: &[Numbered], owners: usize, text: &[u8]) -> usize
-    requires few { length docs.now ≤ MOST_SEGMENT_DOCUMENTS }
-    requires many { owners ≤ MOST_SEGMENT_PATHS }
+fn segment_len(table: &SegTable, text: &[u8]) -> usize
+    requires { length (all_paths table.now) ≤ MOST_SEGMENT_PATHS }
 {
-    HEADER + documents_len(docs) + OWNER * owners + PLACE * docs.len() + text.len()
+    let documents = table.len() as usize;
+    let owners = table.owners().len();
+    HEADER + table.bytes().len() + OWNER * owners + PLACE * documents + text.len()
 }
 
 /// A segment's bytes, with those of its transducer, in room that is taken at once.
@@ -73,11 +71,10 @@ pub(crate) fn written(alloc: Global, table: &SegTable, text: &[u8]) -> Result<Ve
     ensures { IfOk result (λ v. v.items ≡ segment_bytes table.now text.now) }
 {
     let documents = table.len();
-    let docs = table.docs();
     let owners = table.owners().len();
-    let mut out = Vec::with_capacity(alloc, segment_len(docs, owners, text))?;
+    let mut out = Vec::with_capacity(alloc, segment_len(table, text))?;
     put_header(&mut out, documents, owners as u32, text.len() as u64)?;
-    put_documents(&mut out, docs)?;
+    out.extend_from_slice(table.bytes())?;
     put_rest(&mut out, table, text)?;
     Ok(out)
 }

@@ -6,20 +6,16 @@ use Rattle.seg_bytes.proofs.packed.PackedDocuments.of.Goals as goal
 
 pub invariant_of-result : goal.invariant_of-result
 invariant_of-result c =
-    let docs = c.args.docs.now in
-    let starts = c.in_ok-starts.field-0 in
-    (packed_of docs c.put_each.new.out.items starts.starts.items starts.end c.requires
-    c.in_ok-starts.ensures.writable
-    (c.in_ok-put_each.ensures.appended
-    ∙ ap (λ (z : List ℕ). z ++ documents_bytes docs) c.in_ok-bytes.ensures.items)
-    c.in_ok-starts.ensures.starts c.in_ok-starts.ensures.end c.in_ok-starts.ensures.most).1
+    (packed_of c.args.docs.now c.put_documents.new.out.items c.in_ok-starts.starts.items c.requires
+    c.in_ok-starts.ensures.writable c.in_ok-starts.ensures.most
+    (c.in_ok-put_documents.ensures.appended
+    ∙ ap (λ (z : List ℕ). z ++ documents_bytes c.args.docs.now) c.new-bytes.ensures.items)
+    c.in_ok-starts.ensures.value).1
 
 pub returns : goal.returns
 returns c =
-    let docs = c.args.docs.now in
-    let starts = c.in_ok-starts.field-0 in
-    (packed_of docs c.put_each.new.out.items starts.starts.items starts.end c.requires
-    c.in_ok-starts.ensures.writable
-    (c.in_ok-put_each.ensures.appended
-    ∙ ap (λ (z : List ℕ). z ++ documents_bytes docs) c.in_ok-bytes.ensures.items)
-    c.in_ok-starts.ensures.starts c.in_ok-starts.ensures.end c.in_ok-starts.ensures.most).0
+    (packed_of c.args.docs.now c.put_documents.new.out.items c.in_ok-starts.starts.items c.requires
+    c.in_ok-starts.ensures.writable c.in_ok-starts.ensures.most
+    (c.in_ok-put_documents.ensures.appended
+    ∙ ap (λ (z : List ℕ). z ++ documents_bytes c.args.docs.now) c.new-bytes.ensures.items)
+    c.in_ok-starts.ensures.value).0

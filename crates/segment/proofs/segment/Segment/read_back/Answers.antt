@@ -1,5 +1,5 @@
 -- What is written of a segment is accepted, with its documents.
-use Rattle.std.proofs.Common.{◌≡◌, ◌<◌, ℕ, List, length, ap, ◌∙◌, subst, arith}
+use Rattle.std.proofs.Common.{◌≡◌, ◌<◌, ℕ, List, length, ap, ◌∙◌, arith}
 use Rattle.std.specs.List.{AllByRecursion}
 use Rattle.sg_paths.specs.Operations.{PlainNumbered}
 use Rattle.seg_bytes.specs.Laws.{IsWritable}
@@ -8,11 +8,10 @@ use Rattle.segment.specs.Laws.{IsNumbered, MayBeHeld}
 use Rattle.segment.proofs.RoundLemmas.{none_refused, same_documents}
 use Rattle.segment.proofs.segment.Segment.read_back.Goals as goal
 
-may_be_held : (docs slice : List PlainNumbered) (text : List ℕ) → slice ≡ docs
-    → AllByRecursion IsWritable slice → AllByRecursion IsNumbered docs → Represents docs text
-    → MayBeHeld docs
-may_be_held docs slice text is writable numbered r = record {
-  writable = subst (λ z. AllByRecursion IsWritable z) is writable;
+may_be_held : (docs : List PlainNumbered) (text : List ℕ) → AllByRecursion IsWritable docs
+    → AllByRecursion IsNumbered docs → Represents docs text → MayBeHeld docs
+may_be_held docs text writable numbered r = record {
+  writable = writable;
   numbered = numbered;
   rise = r.rise;
   few = r.few;
@@ -24,9 +23,8 @@ unreachable-requires c =
     let docs = c.self.inside.table in
     let bytes = c.in_ok-bytes.bytes.items in
     let bad = rw c.in-Err-Bad.field-0-is at c.in-Err-Bad.ensures.err in
-    let may = may_be_held docs c.docs.result.now c.self.inside.transducer c.docs.ensures
-    c.documents_len.ensures.writable (rw (← c.self.view_is) at c.requires)
-    c.self.invariant in
+    let may = may_be_held docs c.self.inside.transducer c.bytes.ensures.writable
+    (rw (← c.self.view_is) at c.requires) c.self.invariant in
     let size = ap (λ (bs : List ℕ). length bs) c.as_slice.ensures in
     let fits : length bytes < 18446744073709551616 = omega (arith, size) in
     none_refused c.what_was_written_is_accepted.ensures docs bytes
@@ -37,9 +35,8 @@ pub returns-in-Ok : goal.returns-in-Ok
 returns-in-Ok c =
     let docs = c.self.inside.table in
     let bytes = c.in_ok-bytes.bytes.items in
-    let may = may_be_held docs c.docs.result.now c.self.inside.transducer c.docs.ensures
-    c.documents_len.ensures.writable (rw (← c.self.view_is) at c.requires)
-    c.self.invariant in
+    let may = may_be_held docs c.self.inside.transducer c.bytes.ensures.writable
+    (rw (← c.self.view_is) at c.requires) c.self.invariant in
     let size = ap (λ (bs : List ℕ). length bs) c.as_slice.ensures in
     let fits : length bytes < 18446744073709551616 = omega (arith, size) in
     same_documents c.what_was_written_is_accepted.ensures docs c.in-Ok.segment bytes may
