@@ -2,7 +2,7 @@
 ghost use Rattle.std.specs.Prelude.{◌≡◌};
 ghost use Rattle.sg_view.specs.Rows.{HasHit, hit_document, hit_suggestion, hit_key};
 
-use crate::segment_parts::suggestion_at;
+use crate::segment_parts::{key_at, text_at};
 use crate::view::View;
 use segment::Segment;
 use sg_base::Hit;
@@ -35,13 +35,10 @@ impl View {
         let viewed = self.viewed(hit.piece);
         let segment: &Segment = &viewed.segment;
         let table = segment.table();
-        let numbered = table.doc(hit.doc);
-        let document = &numbered.document;
-        let suggestion = suggestion_at(table, hit.doc, hit.place);
         Row {
-            id: document.id.as_str(),
-            text: suggestion.text.as_str(),
-            key: suggestion.key.as_slice(),
+            id: table.id(hit.doc),
+            text: text_at(table, hit.doc, hit.place),
+            key: key_at(table, hit.doc, hit.place),
             score: hit.score,
             seq: hit.seq,
         }

@@ -15,7 +15,6 @@ use seg_table::{Owner, SegTable};
 use segment::Segment;
 use sg_base::{Hit, NodeId, Steps};
 use sg_context::Query;
-use sg_paths::Suggestion;
 use std::marker::Model;
 
 /// The table and the transducer of a segment, borrowed.
@@ -51,15 +50,21 @@ impl<'a> SegmentParts<'a> {
     }
 }
 
-/// The suggestion at a place of a document.
-pub(crate) fn suggestion_at(table: &SegTable, doc: u32, place: u8) -> &Suggestion
+/// The text of the suggestion at a place of a document.
+pub(crate) fn text_at(table: &SegTable, doc: u32, place: u8) -> &str
     requires { HasSuggestion table.now doc place }
-    ensures { result.now ≡ get_or (suggestions_at table.entry.now doc) place no_suggestion }
+    ensures { result.now
+        ≡ (get_or (suggestions_at table.entry.now doc) place no_suggestion).text }
 {
-    let numbered = table.doc(doc);
-    let document = &numbered.document;
-    let suggestions = document.suggestions.items();
-    &suggestions[place as usize]
+    table.text(doc, place)
+}
+
+/// Its key.
+pub(crate) fn key_at(table: &SegTable, doc: u32, place: u8) -> &[u8]
+    requires { HasSuggestion table.now doc place }
+    ensures { result.now ≡ key_at table.entry.now doc place }
+{
+    table.key(doc, place)
 }
 
 impl Keys for SegmentParts<'_> {
@@ -68,8 +73,7 @@ impl Keys for SegmentParts<'_> {
     ghost known = { λ s h. HasSuggestion s.documents h.doc h.place };
 
     fn key(&self, hit: &Hit) -> &[u8] {
-        let suggestion = suggestion_at(self.table, hit.doc, hit.place);
-        suggestion.key.as_slice()
+        key_at(self.table, hit.doc, hit.place)
     }
 }
 
@@ -101,7 +105,6 @@ impl<L> SegParts<L> for SegmentParts<'_> {
     }
 
     fn seq(&self, doc: u32) -> u64 {
-        let numbered = self.table.doc(doc);
-        numbered.seq
+        self.table.seq(doc)
     }
 }
