@@ -1,5 +1,5 @@
 -- The id of the document at the place.
-use Rattle.std.proofs.Common.{◌≡◌, ◌∙◌, [], sym}
+use Rattle.std.proofs.Common.{◌∙◌, [], sym}
 use Rattle.std.proofs.lemmas.List.{get_or-map}
 use Rattle.sg_paths.specs.Operations.{PlainNumbered}
 use Rattle.seg_table.proofs.finding.id_at.Goals as goal

@@ -1,5 +1,5 @@
 -- What is written of a segment is accepted, with its documents.
-use Rattle.std.proofs.Common.{◌≡◌, ◌<◌, ℕ, List, length, ap, ◌∙◌, arith}
+use Rattle.std.proofs.Common.{◌<◌, ℕ, List, length, ap, ◌∙◌, arith}
 use Rattle.std.specs.List.{AllByRecursion}
 use Rattle.sg_paths.specs.Operations.{PlainNumbered}
 use Rattle.seg_bytes.specs.Laws.{IsWritable}
