@@ -80,11 +80,12 @@ fn add_paths(
     Ok(())
 }
 
-/// Sorts the paths of the documents, without numbers among equal ones.
-pub fn time_sort(rt: &HostRuntime, documents: &[Numbered]) -> io::Result<()> {
+/// Sorts the paths of the segment's documents, without numbers among equal ones.
+pub fn time_sort(rt: &HostRuntime, segment: &Segment) -> io::Result<()> {
+    let table = segment.table();
     let mut paths = Vec::new(rt.alloc());
-    for numbered in documents {
-        add_paths(&mut paths, rt.alloc(), numbered)?;
+    for doc in 0..table.len() {
+        add_paths(&mut paths, rt.alloc(), &table.document(doc)?)?;
     }
     let count = paths.len();
     let start = Instant::now(rt)?;

@@ -3,7 +3,7 @@ ghost use Rattle.std.specs.Prelude.{◌≡◌, IfOk, length};
 
 use crate::building::{time_bytes, time_sort};
 use crate::reading::{context_of, key_of, next_line};
-use crate::searching::{print_answers, time_searches, time_starts};
+use crate::searching::{print_answers, time_searches, time_seeks, time_starts};
 use crate::timing::invalid;
 use path_desk::Desk;
 use seg_live::Live;
@@ -89,7 +89,7 @@ fn answer_group(
 ) -> io::Result<()> {
     let title = group.title.as_str();
     if title == "bytes" {
-        time_sort(rt, segment.table().docs())?;
+        time_sort(rt, segment)?;
         return time_bytes(rt, segment);
     }
     if group.queries.is_empty() {
@@ -97,6 +97,9 @@ fn answer_group(
     }
     if title.starts_with("starts") {
         return time_starts(rt, title, segment, group.queries.as_slice());
+    }
+    if title == "seek" {
+        return time_seeks(rt, title, segment, group.queries.as_slice());
     }
     search_group(rt, segment, group, desk)
 }

@@ -4,15 +4,15 @@ ghost use Rattle.seg_live.specs.LiveDocs.{live_count};
 
 use crate::timing::report;
 use best_first::search;
-use fst_walk::Starts;
+use fst_walk::{Starts, seek};
 use path_desk::{Desk, Need, SegReport};
 use seg_live::Live;
 use segment::Segment;
 use sg_answers::MOST_QUEUED;
-use sg_base::{Plain, Steps};
+use sg_base::{CONTEXT_END, Plain, Steps};
 use sg_context::Query;
 use sg_view::SegmentParts;
-use std::alloc::AllocError;
+use std::alloc::{AllocError, Global};
 use std::io;
 use std::time::Instant;
 
@@ -113,4 +113,42 @@ pub fn time_starts(
         count_starts(segment, query, &mut steps);
     }
     report(rt, title, queries.len(), start)
+}
+
+// The bytes that begin the paths of a query's first context and prefix.
+fn front_of(alloc: Global, query: &Query) -> Result<Vec<u8>, AllocError> {
+    let mut front = Vec::new(alloc);
+    if let Some(asked) = query.contexts.items().first() {
+        front.extend_from_slice(asked.context.as_str().as_bytes())?;
+    }
+    front.push(CONTEXT_END)?;
+    front.extend_from_slice(query.prefix.as_slice())?;
+    Ok(front)
+}
+
+fn fronts_of(alloc: Global, queries: &[Query]) -> Result<Vec<Vec<u8>>, AllocError> {
+    let mut fronts = Vec::new(alloc);
+    for query in queries {
+        fronts.push(front_of(alloc, query)?)?;
+    }
+    Ok(fronts)
+}
+
+/// Seeks the first context of each query with its prefix, without its start nodes.
+pub fn time_seeks(
+    rt: &HostRuntime,
+    title: &str,
+    segment: &Segment,
+    queries: &[Query],
+) -> io::Result<()> {
+    let fronts = fronts_of(rt.alloc(), queries)?;
+    let mut steps = Steps::new(Plain);
+    let mut found: usize = 0;
+    let start = Instant::now(rt)?;
+    for front in &fronts {
+        if seek(segment.transducer(), front.as_slice(), &mut steps).is_some() {
+            found = found.saturating_add(1);
+        }
+    }
+    report(rt, title, found, start)
 }

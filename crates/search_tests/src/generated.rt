@@ -1,13 +1,13 @@
 ghost use Rattle.std.specs.Prelude.{◌≡◌, ◌<◌, length};
 
-use crate::making::{live_of, query_of, segment_of};
+use crate::making::{documents_of, live_of, query_of, segment_of};
 use crate::reports::{shown_hits, shown_ranks};
 use crate::searches::searched;
 use path_desk::SegReport;
 use seg_live::Live;
 use segment::Segment;
 use sg_answers::{MOST_QUEUED, NumberedRef, first_rows};
-use sg_base::{Cut, Rank};
+use sg_base::{Cut, Rank, saturated_u32};
 use sg_context::{Query, boost_of};
 use sg_paths::{
     MOST_SEGMENT_DOCUMENTS, MOST_SEGMENT_PATHS, Numbered, Path, paths_at_most, paths_of,
@@ -121,20 +121,20 @@ fn case_of(alloc: Global, numbers: &mut Numbers) -> Result<Case, Fail> {
     })
 }
 
-// The first rows of the live documents, by a look at each of them.
+// The first rows of the live documents of a segment, by a look at each of them.
 fn plain_rows(
     alloc: Global,
     query: &Query,
     segment: &Segment,
+    docs: &[Numbered],
     live: &Live,
 ) -> Result<Vec<Rank>, Fail>
     requires { length live.now ≡ length segment.now }
 {
-    let table = segment.table();
     let mut documents = Vec::new(alloc);
-    for doc in 0..table.len() {
+    for doc in 0..segment.table().len() {
         if live.is_live(doc) {
-            let numbered = table.doc(doc);
+            let numbered = docs.get(doc as usize).ok_or("no document")?;
             documents.push(NumberedRef {
                 seq: numbered.seq,
                 document: &numbered.document,
@@ -202,12 +202,12 @@ fn precedes(row: &Rank, cut: &Cut) -> bool {
 fn is_spent(
     alloc: Global,
     query: &Query,
-    segment: &Segment,
+    docs: &[Numbered],
     live: &Live,
     cut: &Cut,
 ) -> Result<bool, Fail> {
-    let paths = plain_paths(alloc, segment.table().docs())?;
-    let documents = segment.table().len();
+    let paths = plain_paths(alloc, docs)?;
+    let documents = saturated_u32(docs.len());
     let most = most_paths(paths.as_slice(), documents);
     let size = plain_queue_size(query.k, most, documents, live.count());
     let count = count_at_least(query, paths.as_slice(), cut.score);
@@ -225,9 +225,10 @@ fn is_truncated(
 ) -> Result<bool, Fail>
     requires { length live.now ≡ length segment.now }
 {
-    let mut wanted = plain_rows(alloc, query, segment, live)?;
+    let docs = documents_of(alloc, segment)?;
+    let mut wanted = plain_rows(alloc, query, segment, docs.as_slice(), live)?;
     let Some(cut) = &report.cut else {
-        let told = shown_hits(alloc, segment.table().docs(), report.hits.items())?;
+        let told = shown_hits(alloc, docs.as_slice(), report.hits.items())?;
         assert_eq!(rt;
             told.as_str(),
             shown_ranks(alloc, wanted.as_slice())?.as_str()
@@ -235,7 +236,7 @@ fn is_truncated(
         return Ok(false);
     };
     wanted.retain(|row| precedes(row, cut));
-    let told = shown_hits(alloc, segment.table().docs(), report.hits.items())?;
+    let told = shown_hits(alloc, docs.as_slice(), report.hits.items())?;
     assert_eq!(rt;
         told.as_str(),
         shown_ranks(alloc, wanted.as_slice())?.as_str()
@@ -245,7 +246,7 @@ fn is_truncated(
         "fewer rows than asked for"
     );
     assert!(rt;
-        is_spent(alloc, query, segment, live, cut)?,
+        is_spent(alloc, query, docs.as_slice(), live, cut)?,
         "the queue was spent"
     );
     Ok(true)

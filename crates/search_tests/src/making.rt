@@ -6,7 +6,7 @@ use seg_live::Live;
 use segment::Segment;
 use sg_base::{Bytes, Context, Key, List, Text};
 use sg_context::{Query, QueryContext};
-use sg_paths::{Batch, Document, Op, Suggestion};
+use sg_paths::{Batch, Document, Numbered, Op, Suggestion};
 use std::alloc::Global;
 use std::test::Fail;
 
@@ -64,6 +64,16 @@ pub fn segment_of(alloc: Global, spelled: &str) -> Result<Segment, Fail> {
         operations.push(Op::Add(document_of(alloc, document)?))?;
     }
     segment_of_batch(alloc, operations)
+}
+
+/// Copies of the segment's documents.
+pub fn documents_of(alloc: Global, segment: &Segment) -> Result<Vec<Numbered>, Fail> {
+    let table = segment.table();
+    let mut documents = Vec::new(alloc);
+    for doc in 0..table.len() {
+        documents.push(table.document(doc)?)?;
+    }
+    Ok(documents)
 }
 
 fn places_of(alloc: Global, count: u32, spelled: &str) -> Result<Vec<u32>, Fail>

@@ -1,6 +1,6 @@
 ghost use Rattle.std.specs.Prelude.{◌≡◌, length};
 
-use crate::making::{live_of, query_of, segment_of};
+use crate::making::{documents_of, live_of, query_of, segment_of};
 use crate::reports::shown_report;
 use best_first::search;
 use path_desk::{Desk, Need, SegReport};
@@ -46,7 +46,8 @@ fn answered(alloc: Global, query: &str, documents: &str, dead: &str) -> Result<S
     let segment = segment_of(alloc, documents)?;
     let live = live_of(alloc, segment.table().len(), dead)?;
     let report = searched(alloc, &segment, &live, &query)?;
-    shown_report(alloc, segment.table().docs(), &report)
+    let documents = documents_of(alloc, &segment)?;
+    shown_report(alloc, documents.as_slice(), &report)
 }
 
 // A row each: its name, a query with its prefix, its number of rows and its contexts, documents

@@ -52,8 +52,8 @@ fn segment_of(alloc: Global, spelled: &str) -> Result<Segment, Fail> {
 fn shown_table(alloc: Global, segment: &Segment) -> Result<String, Fail> {
     let table = segment.table();
     let mut shown = String::new(alloc);
-    for numbered in table.docs() {
-        shown.push_str(format!(in alloc; "{} ", numbered.seq)?.as_str())?;
+    for doc in 0..table.len() {
+        shown.push_str(format!(in alloc; "{} ", table.seq(doc))?.as_str())?;
     }
     shown.push_str("|")?;
     for owner in table.owners() {

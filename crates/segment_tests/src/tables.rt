@@ -66,19 +66,48 @@ fn paths_owners_and_ids_are_those_of_the_documents(rt: HostRuntime) -> Result<()
     Ok(())
 }
 
+// The id, and the text and the key of a suggestion.
+fn shown_suggestion(alloc: Global, table: &SegTable, doc: u32, place: u8) -> Result<String, Fail> {
+    if doc >= table.len() {
+        return Err("no document".into());
+    }
+    let copy = table.document(doc)?;
+    if place as usize >= copy.document.suggestions.items().len() {
+        return Err("no suggestion".into());
+    }
+    let key = str::from_utf8(table.key(doc, place))?;
+    let id = table.id(doc);
+    Ok(format!(in alloc; "{id}: {} {key}", table.text(doc, place))?)
+}
+
 #[test]
-fn a_table_lends_its_documents(rt: HostRuntime) -> Result<(), Fail> {
+fn a_table_lends_ids_texts_and_keys(rt: HostRuntime) -> Result<(), Fail> {
+    let documents = documents_of(rt.alloc(), "d k:5@a,b; e abz:5@x,y zzz:1 abc:2@")?;
+    if documents.len() > 100 || paths_at_most(documents.as_slice()) > MOST_SEGMENT_PATHS {
+        return Err("other documents".into());
+    }
+    let paths = paths_of(rt.alloc(), documents.as_slice())?;
+    let table = SegTable::of(documents, paths.as_slice())?;
+    let first = shown_suggestion(rt.alloc(), &table, 0, 0)?;
+    assert_eq!(rt; first.as_str(), "d: k k");
+    let last = shown_suggestion(rt.alloc(), &table, 1, 2)?;
+    assert_eq!(rt; last.as_str(), "e: abc abc");
+    assert_eq!(rt; table.bytes().len(), 83);
+    Ok(())
+}
+
+#[test]
+fn a_table_gives_its_documents(rt: HostRuntime) -> Result<(), Fail> {
     let documents = documents_of(rt.alloc(), "b k:1; a k:2@x,y")?;
     if documents.len() != 2 || paths_at_most(documents.as_slice()) > MOST_SEGMENT_PATHS {
         return Err("other documents".into());
     }
     let paths = paths_of(rt.alloc(), documents.as_slice())?;
     let table = SegTable::of(documents, paths.as_slice())?;
-    let second = table.doc(1).copy()?;
+    let second = table.document(1)?;
     assert_eq!(rt; second.seq, 2);
     assert_eq!(rt; second.document.id.as_str(), "a");
     assert_eq!(rt; table.len(), 2);
-    assert_eq!(rt; table.docs().len(), 2);
     assert_eq!(rt; table.owners().len(), 3);
     assert_eq!(rt; table.ids(), [1, 0].as_slice());
     Ok(())
