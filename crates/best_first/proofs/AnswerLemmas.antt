@@ -27,7 +27,7 @@ use Rattle.best_first.proofs.MemberLemmas.{in-filter_map, filter_map-has, in-fla
 turned : (m n : ℕ) → nat_eq m n ≡ false → nat_eq n m ≡ false
 turned m n h = grind (arith, nat_tests)
 
-once_in_order : (xs : List Rank) → Once xs → Once (in_order rank_cmp xs)
+pub once_in_order : (xs : List Rank) → Once xs → Once (in_order rank_cmp xs)
 once_in_order xs o =
     pairs-in_order rank_cmp (λ a b. nat_eq a.seq b.seq ≡ false) (λ x y h. turned x.seq y.seq h) xs o
 
@@ -43,7 +43,7 @@ apart x y n ties =
 rises : (xs : List Rank) → RisesBy rank_cmp rank_cmp_total (in_order rank_cmp xs)
 rises xs = rises_in_order rank_cmp rank_cmp_total xs
 
-rising : (xs : List Rank) → Once (in_order rank_cmp xs) → Ascending (in_order rank_cmp xs)
+pub rising : (xs : List Rank) → Once (in_order rank_cmp xs) → Ascending (in_order rank_cmp xs)
 rising xs o =
     strictly rank_cmp rank_cmp_total (in_order rank_cmp xs) (rises xs)
     (pairs-members (λ a b. nat_eq a.seq b.seq ≡ false) (λ a b. rank_cmp a b ≡ Equal → ⊥)
@@ -84,7 +84,7 @@ matching_ranks-seq query d r i =
 abbrev pub AreDistinct : List PlainNumbered → Type 0
 AreDistinct = Pairs (λ a b. nat_eq a.seq b.seq ≡ false)
 
-row_seq : (query : PlainQuery) (d : PlainNumbered) (r : Rank) → document_row query d ≡ Some r
+pub row_seq : (query : PlainQuery) (d : PlainNumbered) (r : Rank) → document_row query d ≡ Some r
     → r.seq ≡ d.seq
 row_seq query d r h =
     matching_ranks-seq query d r (first_rank-in r (matching_ranks query d) h)
@@ -103,14 +103,14 @@ once_rows_at query (Some r) d ds is f h = (
   h,
 )
 
-once_rows : (query : PlainQuery) (ds : List PlainNumbered) → AreDistinct ds
+pub once_rows : (query : PlainQuery) (ds : List PlainNumbered) → AreDistinct ds
     → Once (filter_map (document_row query) ds)
 once_rows query [] d = tt
 once_rows query (x ∷ ds) d =
     once_rows_at query (document_row query x) x ds refl d.0 (once_rows query ds d.1)
 
 -- the answer is the ranking of the matching paths
-is_ranking-answer : (query : PlainQuery) (ds : List PlainNumbered) → AreDistinct ds
+pub is_ranking-answer : (query : PlainQuery) (ds : List PlainNumbered) → AreDistinct ds
     → IsRanking (answer query ds) (flat_map (matching_ranks query) ds)
 is_ranking-answer query ds d =
     let rows : List Rank = filter_map (document_row query) ds in

@@ -13,3 +13,4 @@ mod sizing;
 
 pub use parts::SegParts;
 pub use searching::search;
+pub use sizing::queue_size;
