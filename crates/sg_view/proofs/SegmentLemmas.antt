@@ -28,7 +28,7 @@ rising_from : (seq : ℕ) (ds : List PlainNumbered) → RiseFrom seq ds
 rising_from seq [] rise = tt
 rising_from seq (x ∷ xs) rise = (above x.seq xs rise.1, rising_from x.seq xs rise.1)
 
-rising : (ds : List PlainNumbered) → NumbersRise ds
+pub rising : (ds : List PlainNumbered) → NumbersRise ds
     → Pairs (λ (a b : PlainNumbered). a.seq < b.seq) ds
 rising [] rise = tt
 rising (x ∷ xs) rise = (above x.seq xs rise, rising_from x.seq xs rise)

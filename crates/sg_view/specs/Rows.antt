@@ -1,10 +1,10 @@
 -- Hits of a view's segments. Source: this project's own.
-use Rattle.std.specs.Prelude.{ℕ, ◌<◌, List, [], length, get_or}
+use Rattle.std.specs.Prelude.{◌≡◌, ℕ, ◌<◌, List, [], length, get_or}
 use Rattle.sg_base.specs.declared.hit.Hit.{Hit}
 use Rattle.sg_paths.specs.Documents.{PlainDocument, PlainSuggestion}
 use Rattle.sg_paths.specs.Operations.{PlainNumbered}
 use Rattle.best_first.specs.Parts.{HasSuggestion, suggestions_at, no_suggestion}
-use Rattle.best_first.specs.PathMatches.{no_document}
+use Rattle.best_first.specs.Parts.{no_document, seq_at}
 use Rattle.sg_view.specs.Viewing.{LiveSegment}
 
 -- the segment behind the last
@@ -19,6 +19,10 @@ documents_at segments piece = (get_or segments piece no_segment).documents
 abbrev pub HasHit : List LiveSegment → Hit → Type 0
 HasHit segments h =
     (h.piece < length segments) × HasSuggestion (documents_at segments h.piece) h.doc h.place
+
+-- the hit's number is its document's
+abbrev pub IsNumbered : List LiveSegment → Hit → Type 0
+IsNumbered segments h = h.seq ≡ seq_at (documents_at segments h.piece) h.doc
 
 -- the hit's document
 abbrev pub hit_document : List LiveSegment → Hit → PlainDocument

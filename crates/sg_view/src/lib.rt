@@ -4,8 +4,11 @@
 #![tactic(auto)]
 
 mod building;
+mod cuts;
 mod row;
+mod searching;
 mod segment_parts;
+mod suggesting;
 mod ticket;
 mod view;
 

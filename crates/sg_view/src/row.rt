@@ -4,6 +4,7 @@ ghost use Rattle.sg_view.specs.Rows.{HasHit, hit_document, hit_suggestion, hit_k
 
 use crate::segment_parts::{key_at, text_at};
 use crate::view::View;
+use collector::Keys;
 use segment::Segment;
 use sg_base::Hit;
 
@@ -42,5 +43,20 @@ impl View {
             score: hit.score,
             seq: hit.seq,
         }
+    }
+}
+
+impl Keys for View {
+    ghost use Rattle.sg_view.specs.Searched.{IsHitIn};
+
+    ghost key_of = { λ v h. hit_key v.segments h };
+
+    ghost known = { λ v h. IsHitIn v.segments h };
+
+    fn key(&self, hit: &Hit) -> &[u8] {
+        let viewed = self.viewed(hit.piece);
+        let segment: &Segment = &viewed.segment;
+        let suggestion = suggestion_at(segment.table(), hit.doc, hit.place);
+        suggestion.key.as_slice()
     }
 }

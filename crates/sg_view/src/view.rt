@@ -86,10 +86,20 @@ impl View {
     /// The segment at a place.
     pub(crate) fn viewed(&self, piece: u32) -> &Viewed
         requires { piece < length self.now.segments }
-        ensures { result.now ≡ get_or self.entry.now.segments piece no_segment }
+        ensures value { result.now ≡ get_or self.entry.now.segments piece no_segment }
+        ensures counted { IsCounted (get_or self.entry.now.segments piece no_segment) }
     {
         let segments = self.segments.items();
         &segments[piece as usize]
+    }
+
+    /// Its segments.
+    pub(crate) fn segments(&self) -> &[Viewed]
+        ensures value { result.now ≡ self.entry.now.segments }
+        ensures few { length self.now.segments < 2 ^ 32 }
+        ensures counted { AllByRecursion IsCounted self.now.segments }
+    {
+        self.segments.items()
     }
 
     /// How many operations it sees.
