@@ -56,7 +56,6 @@ impl Keys for View {
     fn key(&self, hit: &Hit) -> &[u8] {
         let viewed = self.viewed(hit.piece);
         let segment: &Segment = &viewed.segment;
-        let suggestion = suggestion_at(segment.table(), hit.doc, hit.place);
-        suggestion.key.as_slice()
+        key_at(segment.table(), hit.doc, hit.place)
     }
 }
