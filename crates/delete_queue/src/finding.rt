@@ -95,7 +95,7 @@ fn places_reached(
 /// The places of the documents, rising, that a delete or an update of the batches reaches whose
 /// number is over `applied` and at most `upto`: it has the document's id, and a number over the
 /// document's own. Takes a sort of these operations, two halvings of the table for each id among
-/// them, and a sort of the places.
+/// them, and a sort of the places; nothing where the table has no documents.
 pub fn dead_in(
     alloc: Global,
     table: &SegTable,
@@ -107,6 +107,9 @@ pub fn dead_in(
         ≡ places_from 0 (is_dead_in applied upto (map (λ b. b.value) batches.now)) table.now) }
     ensures within { IfOk result (λ dead. All (λ place. place < length table.now) dead.items) }
 {
+    if table.len() == 0 {
+        return Ok(Vec::new(alloc));
+    }
     let mut deletes = deletes_between(alloc, applied, upto, batches)?;
     deletes.sort_unstable();
     let mut dead = places_reached(alloc, table, deletes.as_slice())?;

@@ -11,10 +11,12 @@ use Rattle.std.proofs.lemmas.List.{append-nil}
 use Rattle.std.proofs.lemmas.List.Folds.{list_any-append, list_any_none}
 use Rattle.sg_paths.specs.Operations.{PlainOp}
 use Rattle.index_core.specs.declared.limits.TheConstants.{BATCH_OPERATIONS}
-use Rattle.index_core.specs.Histories.{HistoryEvent, accept, freeze, view_end, Record, View}
+use Rattle.index_core.specs.Histories.{HistoryEvent, accept, freeze, built}
+use Rattle.index_core.specs.Histories.{live_docs_updated, view_end, Record, View}
 use Rattle.index_core.specs.Histories.{is_among, accepted, frozen, begun_view, ended_view}
 use Rattle.index_core.specs.Histories.{begun_views, open_views}
 use Rattle.index_core.specs.Records.{with_event, buffered, next_generation}
+use Rattle.index_core.specs.CurrentPieces.{is_unbuilt, after_built, is_behind, after_lived}
 use Rattle.index_core.specs.Fields.{AreViewsFrom}
 use Rattle.index_core.specs.OpenViews.{without}
 use Rattle.index_core.specs.Calls.{with_operation, after_accept, after_freeze, beginning}
@@ -44,6 +46,28 @@ open_views-after_freeze caller r =
     open_views (if none then r else with_event r event).history ≡ open_views r.history) [
       | true ↦ refl
       | false ↦ open_views-skip r.history event refl refl
+    ]
+
+-- nor does a segment
+pub open_views-after_built : (caller g : ℕ) (r : Record)
+    → open_views (after_built caller g r).history ≡ open_views r.history
+open_views-after_built caller g r =
+    elim (is_unbuilt r g) as (λ b.
+    open_views (if b then with_event r (built caller g) else r).history
+    ≡ open_views r.history) [
+      | true ↦ open_views-skip r.history (built caller g) refl refl
+      | false ↦ refl
+    ]
+
+-- nor do live docs
+pub open_views-after_lived : (caller g upto : ℕ) (r : Record)
+    → open_views (after_lived caller g upto r).history ≡ open_views r.history
+open_views-after_lived caller g upto r =
+    elim (is_behind r g upto) as (λ b.
+    open_views (if b then with_event r (live_docs_updated caller g upto) else r).history
+    ≡ open_views r.history) [
+      | true ↦ open_views-skip r.history (live_docs_updated caller g upto) refl refl
+      | false ↦ refl
     ]
 
 -- nor does an accept, with the freeze of a full buffer
@@ -146,7 +170,7 @@ without_newest vs v below =
     ∙ rw same (append-nil (without v.view vs)) ∙ without_greater v.view vs below
 
 -- what is in a list is its first element or among the rest
-first_or_later : (w v : View) (ws : List View) → Contains (w ∷ ws) v → (w ≡ v) ⊎ Contains ws v
+pub first_or_later : (w v : View) (ws : List View) → Contains (w ∷ ws) v → (w ≡ v) ⊎ Contains ws v
 first_or_later w v ws there = by_place there.0 there.1 there.2
   where
     by_place : (k : ℕ) → k < length (w ∷ ws) → slice_index_or (w ∷ ws) k v ≡ v

@@ -6,5 +6,10 @@ pub mod Merges
 pub mod LegalHistories
 pub mod WorkedHistories
 pub mod OpenViews
+pub mod CurrentPieces
+pub mod HeldGenerations
+pub mod HeldEvents
+pub mod EndedMerges
+pub mod Keeping
 pub mod Calls
 pub mod Fields

@@ -1,62 +1,17 @@
--- The merge plan. Source: Lucene's merge policies, which merge segments of like size; levels and
--- limits are this project's own.
-use Rattle.std.specs.Prelude.{ℕ, ◌+◌, ◌-◌, Bool, not, nat_eq, nat_lt, nat_le, ◌&&◌, Option, Some}
-use Rattle.std.specs.Prelude.{None, option_map, List, [], ◌∷◌, length, map, filter, find, take}
-use Rattle.std.specs.Prelude.{sum_by, count_by}
+-- The merge plan of a record: what stands in `merge_plan`, over its generations. Source: Lucene's
+-- merge policies.
+use Rattle.std.specs.Prelude.{ℕ, not, Option, List, length, map, filter, sum_by, count_by}
 use Rattle.std.specs.List.{list_any}
 use Rattle.sg_paths.specs.LiveDocuments.{is_deleted}
 use Rattle.sg_paths.specs.Paths.{paths}
-use Rattle.index_core.specs.declared.limits.TheConstants.{MOST_SEGMENT_DOCUMENTS}
-use Rattle.index_core.specs.declared.limits.TheConstants.{MOST_SEGMENT_PATHS}
+use Rattle.merge_plan.specs.declared.size.Size.{Size}
+use Rattle.merge_plan.specs.Merges.{plan}
 use Rattle.index_core.specs.Histories.{Record, is_among}
 use Rattle.index_core.specs.Records.{current, open_merges}
 use Rattle.index_core.specs.Generations.{documents_of, applied, is_built}
 
--- what the plan looks at in a generation
-pub record Size : Type 0 where
-  pub generation : ℕ
-  pub documents : ℕ
-  pub live : ℕ
-  pub paths : ℕ
-
--- the number of decimal digits of a number below 2^32; 0 has one
-abbrev pub digits : ℕ → ℕ
-digits n =
-    1 + count_by (λ power. nat_le power n)
-    (10 ∷ 100 ∷ 1000 ∷ 10000 ∷ 100000 ∷ 1000000 ∷ 10000000 ∷ 100000000 ∷ 1000000000 ∷ [])
-
--- the first ten of a level, which is the number of digits of their live documents
-abbrev pub first_ten : List Size → ℕ → List Size
-first_ten sizes level = take 10 (filter (λ s. nat_eq (digits s.live) level) sizes)
-
--- whether they are ten, and together within the limits of a segment
-abbrev pub is_full : List Size → Bool
-is_full sizes =
-    nat_eq (length sizes) 10
-    && nat_le (sum_by (λ s. s.documents) sizes) MOST_SEGMENT_DOCUMENTS
-    && nat_le (sum_by (λ s. s.paths) sizes) MOST_SEGMENT_PATHS
-
--- the first ten of the lowest full level
-abbrev pub full_level : List Size → Option (List Size)
-full_level sizes =
-    find is_full (map (first_ten sizes) (1 ∷ 2 ∷ 3 ∷ 4 ∷ 5 ∷ 6 ∷ 7 ∷ 8 ∷ 9 ∷ 10 ∷ []))
-
--- the first with more deleted documents than live ones, alone
-abbrev pub mostly_deleted : List Size → Option (List Size)
-mostly_deleted sizes =
-    option_map (λ s. s ∷ []) (find (λ s. nat_lt s.live (s.documents - s.live)) sizes)
-
--- the first that there is
-abbrev pub first_of : {A : Type 0} → Option A → Option A → Option A
-first_of (Some one) other = Some one
-first_of None other = other
-
--- the generations to merge, if any are
-abbrev pub plan : List Size → Option (List ℕ)
-plan sizes =
-    option_map (map (λ s. s.generation)) (first_of (full_level sizes) (mostly_deleted sizes))
-
--- the size of a generation, with the deletes that are applied to it
+-- the size of a generation, with the deletes that are applied to it, and whether an open merge
+-- holds it
 abbrev pub size_of : Record → ℕ → Size
 size_of r g =
     let documents = documents_of r g in
@@ -66,13 +21,9 @@ size_of r g =
       documents = length documents;
       live = count_by (λ d. not (is_deleted r.journal upto d)) documents;
       paths = sum_by (λ d. length (paths d.document)) documents;
+      held = list_any (λ m. is_among g m.generations) (open_merges r);
     }
 
--- whether it is built and in no open merge
-abbrev pub is_candidate : Record → ℕ → Bool
-is_candidate r g =
-    is_built r g && not (list_any (λ m. is_among g m.generations) (open_merges r))
-
--- the plan over the built current generations that are in no open merge
+-- the plan over the built current generations
 abbrev pub merge_plan : Record → Option (List ℕ)
-merge_plan r = plan (map (size_of r) (filter (is_candidate r) (current r)))
+merge_plan r = plan (map (size_of r) (filter (is_built r) (current r)))

@@ -1,6 +1,6 @@
 -- Worked values of what a record says of its generations, of merges, of the events that may come
--- next, and of the merge plan. Source: this project's own.
-use Rattle.std.specs.Prelude.{◌≡◌, ℕ, true, false, Some, None, List, [], ◌∷◌, ◌++◌, codes, map}
+-- next, and of what is merged. Source: this project's own.
+use Rattle.std.specs.Prelude.{◌≡◌, ℕ, true, false, Some, None, List, [], ◌∷◌, ◌++◌, codes}
 use Rattle.sg_paths.specs.Documents.{PlainSuggestion, PlainDocument}
 use Rattle.sg_paths.specs.Operations.{PlainOp, adds, deletes, PlainNumbered}
 use Rattle.index_core.specs.Histories.{HistoryEvent, accept, freeze, begin, built}
@@ -8,7 +8,7 @@ use Rattle.index_core.specs.Histories.{live_docs_updated, merge_begin, merge_end
 use Rattle.index_core.specs.Histories.{view_end, Record, Merge}
 use Rattle.index_core.specs.Records.{accepted, frozen, buffered, current, open_merges, released}
 use Rattle.index_core.specs.Generations.{documents_of, applied, is_built}
-use Rattle.index_core.specs.Merges.{Size, digits, plan, size_of, merge_plan}
+use Rattle.index_core.specs.Merges.{size_of, merge_plan}
 use Rattle.index_core.specs.LegalHistories.{merged_documents, merged_generation, MeetsLine}
 use Rattle.index_core.specs.LegalHistories.{first_events}
 
@@ -160,16 +160,18 @@ pub record AddsAndDeletes : Type 0 where
   pub deletes_hold_none : documents_of deleted 2 ≡ []
   pub segments : (is_built added 1 ≡ false) × (is_built deleted 1 ≡ true)
   pub deletes_applied : (applied deleted 1 ≡ 0) × (applied deleted 2 ≡ 3) × (applied known 1 ≡ 5)
-  pub unknown_deletes :
-      size_of deleted 1 ≡ record { generation = 1; documents = 3; live = 3; paths = 3 }
-  pub known_deletes :
-      size_of known 1 ≡ record { generation = 1; documents = 3; live = 1; paths = 3 }
+  pub unknown_deletes : size_of deleted 1
+      ≡ record { generation = 1; documents = 3; live = 3; paths = 3; held = false }
+  pub known_deletes : size_of known 1
+      ≡ record { generation = 1; documents = 3; live = 1; paths = 3; held = false }
   pub nothing_to_merge : merge_plan deleted ≡ None
   pub mostly_deleted : merge_plan known ≡ Some (1 ∷ [])
 
 -- what it says of a merge that a late delete doesn't reach
 pub record MergesWithALateDelete : Type 0 where
   pub is_open : open_merges merging ≡ merge ∷ []
+  pub is_held : size_of merging 1
+      ≡ record { generation = 1; documents = 3; live = 1; paths = 3; held = true }
   pub nothing_else : merge_plan merging ≡ None
   pub keeps : merged_documents merging merge ≡ third ∷ []
   pub into : merged_generation merging merge ≡ Some 4
@@ -186,8 +188,8 @@ pub record MergesByNumber : Type 0 where
   pub holds : (documents_of crossed 3 ≡ sixth ∷ []) × (documents_of crossed 4 ≡ third ∷ [])
   pub keeps : merged_documents crossed crossed_merge ≡ third ∷ sixth ∷ []
   pub into : merged_generation crossed crossed_merge ≡ Some 5
-  pub two_contexts :
-      size_of crossed 3 ≡ record { generation = 3; documents = 1; live = 1; paths = 2 }
+  pub two_contexts : size_of crossed 3
+      ≡ record { generation = 3; documents = 1; live = 1; paths = 2; held = false }
 
 -- what it says of a merge that keeps no document
 pub record MergesToNone : Type 0 where
@@ -225,44 +227,6 @@ pub record EventsMissTheirLines : Type 0 where
   pub dropped_unopened : MeetsLine known (merge_drop 0 1) → ⊥
   pub dropped_twice : MeetsLine merged (merge_drop 0 1) → ⊥
 
--- generations of this many documents, with so many that are live
-abbrev sized : ℕ → ℕ → List ℕ → List Size
-sized documents live generations =
-    map (λ g. record { generation = g; documents = documents; live = live; paths = documents })
-    generations
-
--- generations of one live document each, of this many paths
-abbrev with_paths : ℕ → List ℕ → List Size
-with_paths paths generations =
-    map (λ g. record { generation = g; documents = 1; live = 1; paths = paths }) generations
-
--- ten generations
-abbrev ten : List ℕ
-ten = 1 ∷ 2 ∷ 3 ∷ 4 ∷ 5 ∷ 6 ∷ 7 ∷ 8 ∷ 9 ∷ 10 ∷ []
-
--- nine others
-abbrev nine : List ℕ
-nine = 11 ∷ 12 ∷ 13 ∷ 14 ∷ 15 ∷ 16 ∷ 17 ∷ 18 ∷ 19 ∷ []
-
--- what the plan says: ten of a level together, the lowest level first, within a segment's limits;
--- else the first that is mostly deleted
-pub record PlansByLevels : Type 0 where
-  pub level_1 : (digits 0 ≡ 1) × (digits 9 ≡ 1)
-  pub level_2 : (digits 10 ≡ 2) × (digits 99 ≡ 2) × (digits 100 ≡ 3)
-  pub level_10 : digits 4294967295 ≡ 10
-  pub ten_of_a_level : plan (sized 9 9 ten) ≡ Some ten
-  pub nine_of_a_level : plan (sized 9 9 nine) ≡ None
-  pub the_first_ten : plan (sized 9 9 (ten ++ nine)) ≡ Some ten
-  pub by_live_documents : plan (sized 10 10 nine ++ sized 11 9 (20 ∷ [])) ≡ None
-  pub the_lowest_level : plan (sized 100 100 (20 ∷ nine) ++ sized 99 99 ten) ≡ Some ten
-  pub most_documents : plan (sized 104857 104857 ten) ≡ Some ten
-  pub too_many_documents : plan (sized 104858 104858 ten) ≡ None
-  pub most_paths : plan (with_paths 419430 ten) ≡ Some ten
-  pub too_many_paths : plan (with_paths 419431 ten) ≡ None
-  pub half_deleted : plan (sized 10 5 nine) ≡ None
-  pub first_mostly_deleted : plan (sized 10 5 (1 ∷ []) ++ sized 10 4 (2 ∷ 3 ∷ [])) ≡ Some (2 ∷ [])
-  pub levels_first : plan (sized 9 2 (20 ∷ []) ++ sized 99 99 ten) ≡ Some ten
-
 -- all of them
 pub record WorkedHistories : Type 0 where
   pub adds_and_deletes : AddsAndDeletes
@@ -271,4 +235,3 @@ pub record WorkedHistories : Type 0 where
   pub to_none : MergesToNone
   pub next : EventsMeetTheirLines
   pub not_next : EventsMissTheirLines
-  pub levels : PlansByLevels

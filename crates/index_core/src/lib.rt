@@ -3,10 +3,12 @@
 #![tactic(auto)]
 
 mod batching;
+mod changing;
 mod event;
 mod laws;
 mod limits;
 mod machine;
+mod merge_laws;
 mod parts;
 mod refusal;
 mod sharing;
@@ -14,11 +16,14 @@ mod slot;
 mod store;
 
 pub use event::Event;
+pub use index_holds::Freed;
 pub use laws::worked_histories;
-pub use limits::{
-    BATCH_OPERATIONS, MOST_OPEN_VIEWS, MOST_OPERATIONS, MOST_SEGMENT_DOCUMENTS, MOST_SEGMENT_PATHS,
-    limits_are_exact,
-};
+pub use limits::{BATCH_OPERATIONS, MOST_OPEN_VIEWS, MOST_OPERATIONS, limits_are_exact};
 pub use machine::Core;
-pub use parts::{Freed, Piece, ViewParts};
+pub use merge_laws::{
+    counts_follow_events, current_after_merge, ended_merges_bring, ended_views_release,
+    generations_stay, merged_by_number, merged_pieces_keep_live_documents, still_one_holds,
+};
+pub use parts::CurrentParts;
 pub use refusal::{Refused, ViewError, Why};
+pub use segment::{Kind, Piece, ViewParts};

@@ -10,12 +10,6 @@ pub const BATCH_OPERATIONS: usize = 16_384;
 /// The most views that are open at one time.
 pub const MOST_OPEN_VIEWS: u32 = 256;
 
-/// The most documents of a merged segment.
-pub const MOST_SEGMENT_DOCUMENTS: u64 = 1_048_576;
-
-/// The most paths of a merged segment.
-pub const MOST_SEGMENT_PATHS: u64 = 4_194_304;
-
 /// Each limit is the number that is documented.
 pub fn limits_are_exact()
     ensures { AreLimits }

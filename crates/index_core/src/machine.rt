@@ -1,27 +1,35 @@
 //! The calls of the index.
 ghost use Rattle.std.specs.Prelude.{◌≡◌, ◌<◌, ◌≤◌, ◌+◌, [], ◌∷◌, ◌++◌, IfOk, IfErr};
-ghost use Rattle.std.specs.Prelude.{OnOk, OnErr, length, map, Contains};
+ghost use Rattle.std.specs.Prelude.{OnOk, OnErr, true, length, map, Contains};
 ghost use Rattle.sg_paths.specs.Operations.{plain_op};
+ghost use Rattle.segment.specs.Pieces.{live_docs_at};
+ghost use Rattle.segment.specs.Views.{AreBuildable};
 ghost use Rattle.index_core.specs.Histories.{event_of};
-ghost use Rattle.index_core.specs.Records.{accepted, buffered, open_views};
+ghost use Rattle.index_core.specs.Records.{accepted, frozen, buffered, open_views};
+ghost use Rattle.index_core.specs.Generations.{documents_of};
 ghost use Rattle.index_core.specs.LegalHistories.{IsLegal};
 ghost use Rattle.index_core.specs.Calls.{empty_record, after_accept, after_freeze, after_begin};
 ghost use Rattle.index_core.specs.Calls.{after_end, begun_by, frozen_generation, released_by_end};
 ghost use Rattle.index_core.specs.Calls.{RefusesOperation, RefusesView};
-ghost use Rattle.index_core.specs.OpenViews.{view_of, without, HoldsFirst};
+ghost use Rattle.index_core.specs.OpenViews.{view_of, without};
+ghost use Rattle.index_core.specs.CurrentPieces.{AreOf, is_unbuilt, after_built, is_behind};
+ghost use Rattle.index_core.specs.CurrentPieces.{after_lived};
 
 use crate::event::Event;
 use crate::limits::{MOST_OPEN_VIEWS, MOST_OPERATIONS};
-use crate::parts::{Freed, ViewParts};
+use crate::parts::CurrentParts;
 use crate::refusal::{Refused, ViewError, Why};
 use crate::store::Store;
-use sg_base::List;
+use index_holds::Freed;
+use seg_live::Live;
+use segment::{Segment, ViewParts};
 use sg_paths::Op;
 use std::alloc::{AllocError, Global};
 use std::marker::Model;
+use std::sync::Arc;
 
 /// The index as a pure machine. Operations are buffered until 16,384 are, or until a view begins,
-/// and then frozen as a batch under a generation of its own.
+/// and then frozen as a batch under a generation of its own, of which a segment is built outside.
 #[derive(Drop)]
 pub struct Core {
     store: Store,
@@ -129,12 +137,72 @@ impl Core {
         Ok(Some(self.store.drawn()))
     }
 
+    /// Gives an unbuilt generation the segment of its batch; false where it isn't current and
+    /// unbuilt.
+    pub fn built(
+        &mut self,
+        caller: u32,
+        generation: u32,
+        segment: Arc<Segment>,
+    ) -> Result<bool, AllocError>
+        requires { is_unbuilt self.old generation ≡ true
+            → segment.value ≡ documents_of self.old generation }
+        ensures answer { IfOk result (λ done. done ≡ is_unbuilt self.old generation) }
+        ensures ok { OnOk result (self.new ≡ after_built caller generation self.old) }
+        ensures err { OnErr result (self.new ≡ self.old) }
+        ensures views { open_views self.new ≡ open_views self.old }
+        ensures legal { IsLegal self.new }
+    {
+        // A place for the event, beside those that open views have reserved.
+        let places = self.store.opened() as usize + 1;
+        self.store.reserve(places)?;
+        let done = self.store.build(caller, generation, segment);
+        Ok(done)
+    }
+
+    /// Gives a built generation live docs that know the deletes of the first `applied` operations;
+    /// false where it isn't current and built, or knows as many.
+    pub fn lived(
+        &mut self,
+        caller: u32,
+        generation: u32,
+        live: Arc<Live>,
+        applied: u64,
+    ) -> Result<bool, AllocError>
+        requires within { applied ≤ frozen self.old }
+        requires live_docs { is_behind self.old generation applied ≡ true
+            → live.value
+            ≡ live_docs_at self.old.journal applied (documents_of self.old generation) }
+        ensures answer { IfOk result (λ done. done ≡ is_behind self.old generation applied) }
+        ensures ok { OnOk result (self.new ≡ after_lived caller generation applied self.old) }
+        ensures err { OnErr result (self.new ≡ self.old) }
+        ensures views { open_views self.new ≡ open_views self.old }
+        ensures legal { IsLegal self.new }
+    {
+        // A place for the event, beside those that open views have reserved.
+        let places = self.store.opened() as usize + 1;
+        self.store.reserve(places)?;
+        let done = self.store.live(caller, generation, live, applied);
+        Ok(done)
+    }
+
+    /// The current pieces and what is frozen of the journal behind them: one shared owner each.
+    pub fn pieces(&self) -> Result<CurrentParts, AllocError>
+        ensures parts { IfOk result (AreOf self.now) }
+        ensures buildable { IfOk result AreBuildable }
+        ensures none { IfOk result (λ p. p.pieces ≡ [] → p.batches ≡ []) }
+    {
+        let parts = self.store.share_frozen()?;
+        Ok(parts)
+    }
+
     /// Freezes what is buffered, and begins a view of all operations: one shared owner a piece.
     /// The errors in order: `TooMany`, `Memory`.
     pub fn begin_view(&mut self, caller: u32) -> Result<ViewParts, ViewError>
         // The view.
         ensures view { IfOk result (λ p. view_of caller p ≡ begun_by caller self.old) }
-        ensures held { IfOk result (HoldsFirst self.new) }
+        ensures parts { IfOk result (AreOf self.new) }
+        ensures buildable { IfOk result AreBuildable }
         ensures begun { IfOk result (λ p.
             Contains (open_views self.new) (view_of caller p)) }
 
@@ -143,7 +211,7 @@ impl Core {
         ensures opened { IfOk result (λ p. open_views self.new
             ≡ open_views self.old ++ view_of caller p ∷ []) }
         ensures others { IfOk result (λ p.
-            without p.view (open_views self.new) ≡ open_views self.old) }
+            without p.number (open_views self.new) ≡ open_views self.old) }
         ensures room { OnOk result (length (open_views self.old) < MOST_OPEN_VIEWS) }
 
         // Why it is refused, and what that leaves.
@@ -167,6 +235,7 @@ impl Core {
                 view: _,
                 upto: _,
                 pieces: _,
+                batches: _,
                 gens: _,
             } = parts;
             return Err(ViewError::Memory);
@@ -180,23 +249,19 @@ impl Core {
     /// the place of its event is reserved when the view begins.
     pub fn end_view(&mut self, caller: u32, parts: ViewParts) -> Freed
         requires { Contains (open_views self.old) (view_of caller parts) }
-        ensures freed { result.gens.items ≡ released_by_end caller parts.view self.old }
-        ensures ok { self.new ≡ after_end caller parts.view self.old }
+        ensures freed { result.gens.items ≡ released_by_end caller parts.number self.old }
+        ensures ok { self.new ≡ after_end caller parts.number self.old }
         ensures ended { open_views self.new
-            ≡ without parts.view (open_views self.old) }
+            ≡ without parts.number (open_views self.old) }
         ensures legal { IsLegal self.new }
     {
         let ViewParts {
             view,
             upto: _,
             pieces: _,
+            batches: _,
             gens,
         } = parts;
-        let mut gens = gens.into_vec();
-        gens.clear();
-        self.store.end(caller, view);
-        Freed {
-            gens: List::of(gens),
-        }
+        self.store.end(caller, view, gens.into_vec())
     }
 }

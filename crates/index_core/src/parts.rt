@@ -1,51 +1,33 @@
-//! What a view holds.
+//! What the core tells of its current pieces.
+use segment::Piece;
 use sg_base::List;
 use sg_paths::Batch;
 use std::marker::Model;
 use std::sync::Arc;
 
-/// A generation with its batch.
-#[derive(Debug, Drop)]
-pub struct Piece {
-    pub generation: u32,
-    pub batch: Arc<Batch>,
-}
-
-impl Model for Piece {
-    ghost use Rattle.index_core.specs.OpenViews.{PlainPiece};
-
-    ghost Value = { PlainPiece };
-
-    ghost view = { λ p. record { generation = p.generation; batch = p.batch.value } };
-}
-
-/// What a view holds, until it is given back to `end_view`: it can't be dropped.
-#[derive(Debug)]
-pub struct ViewParts {
-    pub view: u64,
-    /// How many operations it sees.
+/// The current pieces, over what is frozen. Contracts see them as the parts of a view with the
+/// number 0, which no view has.
+#[derive(Drop)]
+pub struct CurrentParts {
+    /// How many operations are frozen.
     pub upto: u64,
-    /// The current pieces, in generation order.
+    /// In the order of generations.
     pub pieces: List<Piece>,
-    /// Their generations.
-    pub gens: List<u32>,
+    /// All operations over the least applied number of the pieces, up to `upto`.
+    pub batches: List<Arc<Batch>>,
 }
 
-impl Model for ViewParts {
-    ghost use Rattle.index_core.specs.OpenViews.{PlainParts};
+impl Model for CurrentParts {
+    ghost use Rattle.std.specs.Prelude.{map};
+    ghost use Rattle.segment.specs.Views.{PlainParts};
 
     ghost Value = { PlainParts };
 
     ghost view = { λ p. record {
-      view = p.view;
+      number = 0;
       upto = p.upto;
       pieces = p.pieces.items;
-      generations = p.gens.items;
+      batches = map (λ b. b.value) p.batches.items;
+      generations = map (λ piece. piece.generation) p.pieces.items;
     } };
-}
-
-/// The generations that nothing references any more, rising.
-#[derive(Debug, Drop)]
-pub struct Freed {
-    pub gens: List<u32>,
 }

@@ -1,19 +1,30 @@
 //! The fields of the core, and steps on them. What a step does is one equation of plain data.
 ghost use Rattle.std.specs.Prelude.{◌≡◌, ◌<◌, ◌≤◌, ◌+◌, ◌-◌, true, false, nat_lt};
-ghost use Rattle.std.specs.Prelude.{IfOk, IfErr, OnOk, OnErr, length, map};
+ghost use Rattle.std.specs.Prelude.{IfOk, IfErr, OnOk, OnErr, length, map, drop, All};
+ghost use Rattle.std.specs.List.Sorted.{IsStrictlyIncreasing};
 ghost use Rattle.sg_paths.specs.Operations.{plain_op};
+ghost use Rattle.index_holds.specs.Holders.{is_held, HasRoom, HasHolder, given_up};
 ghost use Rattle.index_core.specs.declared.limits.TheConstants.{MOST_OPERATIONS, MOST_OPEN_VIEWS};
 ghost use Rattle.index_core.specs.Histories.{event_of};
+ghost use Rattle.index_core.specs.HeldGenerations.{RisesFrom};
+ghost use Rattle.index_core.specs.Keeping.{has_unbuilt, has_behind, least_applied};
+ghost use Rattle.index_core.specs.Keeping.{known_batches};
 ghost use Rattle.index_core.specs.Fields.{empty_store, with_places, with_closed, accepting};
 ghost use Rattle.index_core.specs.Fields.{accepting_one, freezing, freezing_all, all_pieces};
-ghost use Rattle.index_core.specs.Fields.{viewing, ending};
+ghost use Rattle.index_core.specs.Fields.{all_batches, viewing, ending, building, living};
 
 use crate::batching::{shared_batch, take_last};
+use crate::changing::{build_slot, live_slot};
 use crate::event::Event;
 use crate::limits::BATCH_OPERATIONS;
-use crate::parts::{Piece, ViewParts};
-use crate::sharing::{generations_of, shared_pieces};
+use crate::parts::CurrentParts;
+use crate::sharing::{
+    behind, generations_of, known_batches, least_applied, shared_batches, shared_pieces,
+};
 use crate::slot::Slot;
+use index_holds::{Freed, Holds};
+use seg_live::Live;
+use segment::{Kind, Piece, Segment, ViewParts};
 use sg_base::List;
 use sg_paths::{Batch, Op};
 use std::alloc::{AllocError, Global};
@@ -33,6 +44,8 @@ pub(crate) struct Store {
     buffered: Vec<Op>,
     /// All that is buffered, as a batch for which the lists have places.
     closed: Option<Arc<Batch>>,
+    /// What holds each generation.
+    holds: Holds,
     /// How many operations the batches have.
     frozen: u64,
     /// How many generations were drawn.
@@ -58,6 +71,7 @@ impl Model for Store {
       pieces = map (slot_piece (map (λ b. b.value) s.batches.items)) s.slots.items;
       buffer = buffer_of (option_map (λ b. b.value) s.closed) s.buffered.items;
       closed = is_closed (option_map (λ b. b.value) s.closed);
+      held = s.holds.entries;
       frozen_count = s.frozen;
       drawn_count = s.drawn;
       begun_count = s.begun;
@@ -68,6 +82,7 @@ impl Model for Store {
     ghost invariant = { λ s.
         IsClosed s.frozen (option_map (λ b. b.value) s.closed) s.buffered.items
         (vec_len s.batches) (vec_capacity s.batches) (vec_len s.slots) (vec_capacity s.slots)
+        s.holds.spare
         × HaveBatches (map (λ b. b.value) s.batches.items) s.slots.items };
 }
 
@@ -82,6 +97,7 @@ impl Store {
             slots: Vec::new(alloc),
             buffered: Vec::new(alloc),
             closed: None,
+            holds: Holds::new(alloc),
             frozen: 0,
             drawn: 0,
             begun: 0,
@@ -147,6 +163,7 @@ impl Store {
         }
         self.batches.reserve(1)?;
         self.slots.reserve(1)?;
+        self.holds.reserve(1)?;
         let from = self.frozen + 1;
         let upto = self.frozen + self.buffered.len() as u64;
         let ops = mem::replace(&mut self.buffered, Vec::new(self.alloc));
@@ -212,6 +229,7 @@ impl Store {
         requires room { length self.old.history < self.old.places }
         requires most { self.old.frozen_count + length self.old.buffer ≤ MOST_OPERATIONS }
         requires few { self.old.drawn_count ≤ self.old.frozen_count }
+        requires new { is_held self.old.held (self.old.drawn_count + 1) ≡ false }
         ensures { self.new ≡ freezing caller self.old }
     {
         let Some(batch) = self.closed.take() else {
@@ -221,8 +239,15 @@ impl Store {
         let from = batch.from;
         let upto = batch.upto;
         let at = self.batches.len();
-        self.slots.push_reserved(Slot { generation, at });
+        self.slots.push_reserved(Slot {
+            generation,
+            at,
+            segment: None,
+            live: None,
+            applied: self.frozen,
+        });
         self.batches.push_reserved(batch);
+        self.holds.bring(generation);
         self.events.push_reserved(Event::Seal {
             caller,
             generation,
@@ -238,6 +263,7 @@ impl Store {
         requires room { length self.old.history < self.old.places }
         requires most { self.old.frozen_count + length self.old.buffer ≤ MOST_OPERATIONS }
         requires few { self.old.drawn_count ≤ self.old.frozen_count }
+        requires new { is_held self.old.held (self.old.drawn_count + 1) ≡ false }
         ensures { self.new ≡ freezing_all caller self.old }
     {
         if self.closed.is_some() {
@@ -251,6 +277,7 @@ impl Store {
         requires room { length self.old.history + 2 ≤ self.old.places }
         requires most { self.old.frozen_count + length self.old.buffer < MOST_OPERATIONS }
         requires few { self.old.drawn_count ≤ self.old.frozen_count }
+        requires new { is_held self.old.held (self.old.drawn_count + 1) ≡ false }
         ensures ok { OnOk result (self.new
             ≡ freezing caller (accepting caller (plain_op op) self.old)) }
         ensures returned { IfErr result (λ o. plain_op o ≡ plain_op op) }
@@ -262,6 +289,9 @@ impl Store {
             return Err(op);
         };
         let Ok(()) = self.slots.reserve(1) else {
+            return Err(op);
+        };
+        let Ok(()) = self.holds.reserve(1) else {
             return Err(op);
         };
         let Ok(()) = self.buffered.reserve(1) else {
@@ -303,6 +333,7 @@ impl Store {
         requires room { length self.old.history + 2 ≤ self.old.places }
         requires most { self.old.frozen_count + length self.old.buffer < MOST_OPERATIONS }
         requires few { self.old.drawn_count ≤ self.old.frozen_count }
+        requires new { is_held self.old.held (self.old.drawn_count + 1) ≡ false }
         ensures ok { OnOk result (self.new ≡ accepting_one caller (plain_op op) self.old) }
         ensures returned { IfErr result (λ o. plain_op o ≡ plain_op op) }
         ensures err { OnErr result (self.new ≡ self.old) }
@@ -319,18 +350,26 @@ impl Store {
         requires few { self.now.drawn_count ≤ self.now.frozen_count }
         requires room { length self.now.history < self.now.places }
         requires begun { self.now.begun_count ≤ length self.now.history }
-        ensures view { IfOk result (λ p. p.view ≡ self.now.begun_count + 1) }
+        requires some { self.now.closed ≡ true → 0 < length self.now.buffer }
+        ensures number { IfOk result (λ p. p.number ≡ self.now.begun_count + 1) }
         ensures upto { IfOk result (λ p. p.upto ≡ self.now.frozen_count + length self.now.buffer) }
         ensures pieces { IfOk result (λ p. p.pieces ≡ all_pieces self.now) }
+        ensures batches { IfOk result (λ p. p.batches
+            ≡ drop (known_batches (least_applied p.upto (all_pieces self.now))
+            (all_batches self.now)) (all_batches self.now)) }
         ensures gens { IfOk result (λ p.
             p.generations ≡ map (λ piece. piece.generation) (all_pieces self.now)) }
     {
+        let upto = self.accepted();
         let pieces = self.share_pieces()?;
+        let least = least_applied(pieces.as_slice(), upto);
+        let batches = self.share_batches(least)?;
         let gens = generations_of(self.alloc, pieces.as_slice())?;
         Ok(ViewParts {
             view: self.begun + 1,
-            upto: self.accepted(),
+            upto,
             pieces: List::of(pieces),
+            batches: List::of(batches),
             gens: List::of(gens),
         })
     }
@@ -344,10 +383,50 @@ impl Store {
         if let Some(batch) = &self.closed {
             pieces.push(Piece {
                 generation: self.drawn + 1,
-                batch: Arc::try_clone(batch)?,
+                kind: Kind::Raw(Arc::try_clone(batch)?),
+                live: None,
+                applied: self.frozen,
             })?;
         }
         Ok(pieces)
+    }
+
+    fn share_batches(&self, least: u64) -> Result<Vec<Arc<Batch>>, AllocError>
+        requires { self.now.closed ≡ true
+            → least < self.now.frozen_count + length self.now.buffer }
+        ensures { IfOk result (λ v. map (λ b. b.value) v.items
+            ≡ drop (known_batches least (all_batches self.now)) (all_batches self.now)) }
+    {
+        let batches = self.batches.as_slice();
+        let known = known_batches(batches, least);
+        let mut copies = shared_batches(self.alloc, behind(batches, known))?;
+        if let Some(batch) = &self.closed {
+            copies.push(Arc::try_clone(batch)?)?;
+        }
+        Ok(copies)
+    }
+
+    /// The current pieces, over what is frozen.
+    pub(crate) fn share_frozen(&self) -> Result<CurrentParts, AllocError>
+        ensures number { IfOk result (λ p. p.number ≡ 0) }
+        ensures upto { IfOk result (λ p. p.upto ≡ self.now.frozen_count) }
+        ensures pieces { IfOk result (λ p. p.pieces ≡ self.now.pieces) }
+        ensures batches { IfOk result (λ p. p.batches
+            ≡ drop (known_batches (least_applied p.upto self.now.pieces) self.now.batches)
+            self.now.batches) }
+        ensures gens { IfOk result (λ p.
+            p.generations ≡ map (λ piece. piece.generation) self.now.pieces) }
+    {
+        let batches = self.batches.as_slice();
+        let pieces = shared_pieces(self.alloc, self.slots.as_slice(), batches)?;
+        let least = least_applied(pieces.as_slice(), self.frozen);
+        let known = known_batches(batches, least);
+        let unknown = shared_batches(self.alloc, behind(batches, known))?;
+        Ok(CurrentParts {
+            upto: self.frozen,
+            pieces: List::of(pieces),
+            batches: List::of(unknown),
+        })
     }
 
     /// The generations of the parts of a view, for its event.
@@ -364,8 +443,11 @@ impl Store {
         requires room { length self.old.history < self.old.places }
         requires begun { self.old.begun_count ≤ length self.old.history }
         requires few { self.old.open_count < MOST_OPEN_VIEWS }
+        requires rising { IsStrictlyIncreasing gens.items }
+        requires holders { All (HasRoom self.old.held) gens.items }
         ensures { self.new ≡ viewing caller gens.items self.old }
     {
+        self.holds.hold(gens.items());
         self.begun += 1;
         self.opened += 1;
         self.events.push_reserved(Event::Begin {
@@ -376,11 +458,15 @@ impl Store {
         });
     }
 
-    /// Ends a view.
-    pub(crate) fn end(&mut self, caller: u32, view: u64)
+    /// Ends a view of these generations, and answers those that nothing holds any more, in the
+    /// given vector.
+    pub(crate) fn end(&mut self, caller: u32, view: u64, gens: Vec<u32>) -> Freed
         requires some { 0 < self.old.open_count }
         requires room { length self.old.history < self.old.places }
-        ensures { self.new ≡ ending caller view self.old }
+        requires rising { IsStrictlyIncreasing gens.items }
+        requires holders { All (HasHolder self.old.held) gens.items }
+        ensures store { self.new ≡ ending caller view gens.items self.old }
+        ensures freed { result.gens.items ≡ given_up self.old.held self.new.held }
     {
         self.events.push_reserved(Event::End {
             caller,
@@ -388,5 +474,47 @@ impl Store {
             freed: List::of(Vec::new(self.alloc)),
         });
         self.opened -= 1;
+        self.holds.release(gens)
+    }
+
+    /// Gives the piece of a generation its segment, if there is one without; answers whether there
+    /// is.
+    pub(crate) fn build(&mut self, caller: u32, generation: u32, segment: Arc<Segment>) -> bool
+        requires room { length self.old.history < self.old.places }
+        requires rising { RisesFrom 1 (map (λ piece. piece.generation) self.old.pieces) }
+        ensures answer { result ≡ has_unbuilt generation self.old.pieces }
+        ensures store { self.new ≡ building caller generation segment.value self.old }
+    {
+        if !build_slot(&mut self.slots, generation, segment) {
+            return false;
+        }
+        self.events
+            .push_reserved(Event::Built { caller, generation });
+        true
+    }
+
+    /// Gives the piece of a generation live docs that know more, if there is one with a segment;
+    /// answers whether there is.
+    pub(crate) fn live(
+        &mut self,
+        caller: u32,
+        generation: u32,
+        live: Arc<Live>,
+        applied: u64,
+    ) -> bool
+        requires room { length self.old.history < self.old.places }
+        requires rising { RisesFrom 1 (map (λ piece. piece.generation) self.old.pieces) }
+        ensures answer { result ≡ has_behind generation applied self.old.pieces }
+        ensures store { self.new ≡ living caller generation live.value applied self.old }
+    {
+        if !live_slot(&mut self.slots, generation, live, applied) {
+            return false;
+        }
+        self.events.push_reserved(Event::Lived {
+            caller,
+            generation,
+            applied,
+        });
+        true
     }
 }

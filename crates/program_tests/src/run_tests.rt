@@ -106,7 +106,7 @@ fn a_long_run_is_done(rt: HostRuntime) -> Result<(), Fail> {
     };
     for n in 1..6_001u32 {
         push_document(alloc, &mut script, n)?;
-        if n <= 2_000 && n % 5 == 0 {
+        if n <= 2_000 && n % 50 == 0 {
             script.push_query(alloc, 1, row_of(alloc, n)?.as_str())?;
         }
     }

@@ -50,8 +50,7 @@ fn hit_of(score: u64, doc: u32) -> Hit
 fn shown(alloc: Global, hits: &[Hit]) -> Result<String, Fail> {
     let mut text = String::new(alloc);
     for hit in hits {
-        let row = format!(in alloc; "{}:{} ", hit.score, hit.doc)?;
-        text.push_str(row.as_str())?;
+        write!(text, "{}:{} ", hit.score, hit.doc)?;
     }
     Ok(text)
 }
@@ -70,27 +69,6 @@ fn two_rows(alloc: Global, names: &Names) -> Result<Top, Fail>
     Ok(top)
 }
 
-#[test]
-fn the_first_two_documents_are_kept(rt: HostRuntime) -> Result<(), Fail> {
-    let names = names_of(rt.alloc(), "abc abd ab")?;
-    assert!(rt; names.keys.len() == 3);
-    let mut top = Top::new(Vec::with_capacity(rt.alloc(), 2)?, 2);
-    top.put(&names, hit_of(5, 0));
-    assert!(rt; top.last().is_none(), "one row is fewer than two");
-    top.put(&names, hit_of(7, 1));
-    top.put(&names, hit_of(6, 0));
-    let last = top.last().ok_or("two rows have a last")?;
-    assert_eq!(rt; last.score, 6, "the better row of document 0");
-    top.put(&names, hit_of(9, 2));
-    let report = top.close(&names, None);
-    assert_eq!(rt;
-        shown(rt.alloc(), report.hits.items())?.as_str(),
-        "9:2 7:1 "
-    );
-    assert!(rt; report.cut.is_none());
-    Ok(())
-}
-
 fn cut_at(alloc: Global, score: u64, key: &str) -> Result<Cut, Fail> {
     Ok(Cut {
         score,
@@ -100,31 +78,45 @@ fn cut_at(alloc: Global, score: u64, key: &str) -> Result<Cut, Fail> {
     })
 }
 
-// What a truncation point leaves of the rows 9 `ab` and 7 `abd`, of two.
+// A row each: what it shows, the score and the key of a truncation point, and what it leaves of the
+// rows 9 `ab` and 7 `abd`.
 const CUTS: &str = "\
-a lesser score|5|abd|9:2 7:1 |complete
-an equal score, a greater key|7|abe|9:2 7:1 |complete
-an equal key doesn't precede|7|abd|9:2 |cut
-an equal score, a lesser key|7|ab|9:2 |cut
-between the scores|8|abd|9:2 |cut
-before all|10|abd||cut";
+a lesser score: 5 abd => 9:2 7:1 complete
+an equal score, a greater key: 7 abe => 9:2 7:1 complete
+an equal key doesn't precede: 7 abd => 9:2 cut
+an equal score, a lesser key: 7 ab => 9:2 cut
+between the scores: 8 abd => 9:2 cut
+before all: 10 abd => cut";
+
+// What a collector of these two rows gives back, closed by a truncation point.
+fn shown_close(alloc: Global, score: u64, key: &str) -> Result<String, Fail> {
+    let names = names_of(alloc, "abc abd ab")?;
+    if names.keys.len() != 3 {
+        return Err("not three keys".into());
+    }
+    let top = two_rows(alloc, &names)?;
+    let report = top.close(&names, Some(cut_at(alloc, score, key)?));
+    let mut told = shown(alloc, report.hits.items())?;
+    told.push_str(if report.cut.is_some() {
+        "cut"
+    } else {
+        "complete"
+    })?;
+    Ok(told)
+}
+
+fn shown_row(alloc: Global, asked: &str) -> Result<String, Fail> {
+    let (score, key) = asked.split_once(' ').ok_or("no key")?;
+    shown_close(alloc, score.parse::<u64>()?, key)
+}
 
 #[test]
 fn rows_that_precede_a_truncation_point_stay(rt: HostRuntime) -> Result<(), Fail> {
-    let names = names_of(rt.alloc(), "abc abd ab")?;
-    assert!(rt; names.keys.len() == 3);
     for line in CUTS.lines() {
-        let mut fields = line.split('|');
-        let name = fields.next().ok_or("no name")?;
-        let score = fields.next().ok_or("no score")?.parse::<u64>()?;
-        let key = fields.next().ok_or("no key")?;
-        let wanted = fields.next().ok_or("no rows")?;
-        let ends = fields.next().ok_or("no end")?;
-        let top = two_rows(rt.alloc(), &names)?;
-        let report = top.close(&names, Some(cut_at(rt.alloc(), score, key)?));
-        let rows = shown(rt.alloc(), report.hits.items())?;
-        assert_eq!(rt; rows.as_str(), wanted, "{name}");
-        assert_eq!(rt; report.cut.is_some(), ends == "cut", "{name}");
+        let (name, rest) = line.split_once(": ").ok_or("no name")?;
+        let (asked, wanted) = rest.split_once(" => ").ok_or("no rows")?;
+        let told = shown_row(rt.alloc(), asked)?;
+        assert_eq!(rt; told.as_str(), wanted, "{name}");
     }
     Ok(())
 }

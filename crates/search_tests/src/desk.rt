@@ -1,7 +1,7 @@
-ghost use Rattle.std.specs.Prelude.{◌≡◌, ◌<◌, [], None, OnOk, IsSome, MatchOption, length};
+ghost use Rattle.std.specs.Prelude.{◌≡◌, ◌<◌, [], None, OnOk, MatchOption, length};
 
-use path_desk::{Desk, Entry, Need, SegReport};
-use sg_base::{List, NodeId};
+use path_desk::{Desk, Entry};
+use sg_base::NodeId;
 use std::alloc::{AllocError, Global};
 use std::test::Fail;
 
@@ -36,7 +36,7 @@ fn order_of(alloc: Global, desk: &mut Desk) -> Result<String, AllocError>
     let mut order = String::new(alloc);
     while let Some(entry) = taken(desk) {
         let Entry { score, start, .. } = entry;
-        order.push_str(format!(in alloc; " {score}.{start}")?.as_str())?;
+        write!(order, " {score}.{start}")?;
     }
     Ok(order)
 }
@@ -99,93 +99,5 @@ fn starts_are_taken_in_order(rt: HostRuntime) -> Result<(), Fail> {
         let shown = shown_row(rt.alloc(), asked)?;
         assert_eq!(rt; shown.as_str(), wanted, "{line}");
     }
-    Ok(())
-}
-
-fn follow(desk: &mut Desk) -> Result<Entry, Fail>
-    requires { desk.old.followed ≡ None }
-    ensures { OnOk result (IsSome desk.new.followed) }
-{
-    match desk.follow() {
-        Some(entry) => Ok(entry),
-        None => Err(Fail::from("nothing is queued")),
-    }
-}
-
-// Two starts with the key bytes `ab` and the score 5, from which `abz` and `abc` go on.
-#[test]
-fn a_row_is_settled_where_no_lesser_key_may_come(rt: HostRuntime) -> Result<(), Fail> {
-    let mut desk = Desk::new(rt.alloc());
-    desk.begin(2);
-    desk.put_start(entry_of(5, 1), b"ab")?;
-    desk.put_start(entry_of(5, 0), b"ab")?;
-    follow(&mut desk)?;
-    desk.step(b'z')?;
-    desk.reached();
-    assert!(rt;
-        !desk.is_settled(5, b"abz"),
-        "a path from `ab` may still stand before it"
-    );
-    assert!(rt;
-        !desk.is_settled(5, b"ab"),
-        "a path with this very key may come"
-    );
-    assert!(rt; desk.is_settled(5, b"aa"));
-    assert!(rt; desk.is_settled(6, b"abz"));
-    follow(&mut desk)?;
-    desk.step(b'c')?;
-    desk.reached();
-    assert!(rt;
-        desk.is_settled(5, b"abz"),
-        "nothing is queued and nothing was dropped"
-    );
-    Ok(())
-}
-
-// Arcs `a`, `b` and `c` with the scores 3, 4 and 2 beside a followed path, in a queue of two.
-#[test]
-fn the_first_of_the_dropped_is_remembered(rt: HostRuntime) -> Result<(), Fail> {
-    let mut desk = Desk::new(rt.alloc());
-    desk.reserve(Need {
-        room: 2,
-        bytes: 8,
-        k: 3,
-    })?;
-    desk.begin(2);
-    desk.put_start(entry_of(9, 0), b"k")?;
-    follow(&mut desk)?;
-    desk.put(entry_of(3, 0), b'a')?;
-    assert!(rt; !desk.is_behind(2), "nothing was dropped yet");
-    desk.put(entry_of(4, 0), b'b')?;
-    assert!(rt; !desk.is_behind(3), "it may stand before the dropped one");
-    assert!(rt; desk.is_behind(2), "a lesser score changes nothing");
-    desk.put(entry_of(2, 0), b'c')?;
-    desk.step(b'z')?;
-    desk.reached();
-    let order = order_of(rt.alloc(), &mut desk)?;
-    assert_eq!(rt; order.as_str(), " 4.0");
-    let cut = shown_cut(rt.alloc(), &mut desk)?;
-    assert_eq!(rt; cut.as_str(), "3 ka of segment 7 with 2");
-    Ok(())
-}
-
-#[test]
-fn lists_come_and_go(rt: HostRuntime) -> Result<(), Fail> {
-    let mut desk = Desk::new(rt.alloc());
-    desk.reserve(Need {
-        room: 1,
-        bytes: 8,
-        k: 3,
-    })?;
-    let hits = desk.hits();
-    assert!(rt; hits.capacity() >= 3);
-    desk.take_back(SegReport {
-        hits: List::of(hits),
-        cut: None,
-    });
-    let first = desk.hits();
-    let second = desk.hits();
-    assert!(rt; first.capacity() >= 3);
-    assert!(rt; second.capacity() >= 3);
     Ok(())
 }

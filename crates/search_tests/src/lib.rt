@@ -14,3 +14,5 @@ mod making;
 mod reports;
 #[cfg(test)]
 mod searches;
+#[cfg(test)]
+mod views;

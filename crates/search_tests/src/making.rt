@@ -34,13 +34,13 @@ fn suggestion_of(alloc: Global, spelled: &str) -> Result<Suggestion, Fail> {
     Ok(Suggestion::new(text, key_of(alloc, key)?, weight, contexts)?)
 }
 
-// A document of suggestions with blanks between them.
-fn document_of(alloc: Global, spelled: &str) -> Result<Document, Fail> {
+/// A document of suggestions with blanks between them.
+pub fn document_of(alloc: Global, id: &str, spelled: &str) -> Result<Document, Fail> {
     let mut suggestions = Vec::new(alloc);
     for word in spelled.split_whitespace() {
         suggestions.push(suggestion_of(alloc, word)?)?;
     }
-    Ok(Document::new(Text::of(alloc, "id")?, suggestions)?)
+    Ok(Document::new(Text::of(alloc, id)?, suggestions)?)
 }
 
 // The segment of a batch.
@@ -61,7 +61,7 @@ fn segment_of_batch(alloc: Global, operations: Vec<Op>) -> Result<Segment, Fail>
 pub fn segment_of(alloc: Global, spelled: &str) -> Result<Segment, Fail> {
     let mut operations = Vec::new(alloc);
     for document in spelled.split(';') {
-        operations.push(Op::Add(document_of(alloc, document)?))?;
+        operations.push(Op::Add(document_of(alloc, "id", document)?))?;
     }
     segment_of_batch(alloc, operations)
 }

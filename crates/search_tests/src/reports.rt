@@ -14,7 +14,14 @@ fn key_of_hit<'d>(docs: &'d [Numbered], hit: &Hit) -> Result<&'d Key, Fail> {
     Ok(&suggestion.key)
 }
 
-fn push_row(told: &mut String, key: &[u8], score: u64, seq: u64, place: u8) -> Result<(), Fail> {
+/// A row behind those that are told.
+pub fn push_row(
+    told: &mut String,
+    key: &[u8],
+    score: u64,
+    seq: u64,
+    place: u8,
+) -> Result<(), Fail> {
     if !told.is_empty() {
         told.push_str(", ")?;
     }
@@ -48,16 +55,18 @@ pub fn shown_ranks(alloc: Global, ranks: &[Rank]) -> Result<String, Fail> {
     Ok(told)
 }
 
-fn push_cut(told: &mut String, cut: &Cut) -> Result<(), Fail> {
+/// A truncation point behind the rows.
+pub fn push_cut(told: &mut String, cut: &Cut) -> Result<(), Fail> {
     if !told.is_empty() {
         told.push_str(", ")?;
     }
     let key = str::from_utf8(cut.key.as_slice())?;
-    write!(told, "cut at {} {key}, {} queued", cut.score, cut.room)?;
+    let (score, generation, room) = (cut.score, cut.generation, cut.room);
+    write!(told, "cut at {score} {key} of {generation}, {room} queued")?;
     Ok(())
 }
 
-/// The rows of a report, and its truncation point with the queue size.
+/// The rows of a report, and its truncation point with the generation and the queue size.
 pub fn shown_report(alloc: Global, docs: &[Numbered], report: &SegReport) -> Result<String, Fail> {
     let mut told = shown_hits(alloc, docs, report.hits.items())?;
     if let Some(cut) = &report.cut {

@@ -52,22 +52,23 @@ fn answered(alloc: Global, query: &str, documents: &str, dead: &str) -> Result<S
 
 // A row each: its name, a query with its prefix, its number of rows and its contexts, documents
 // with the numbers 1, 2 .., the places of the deleted ones, and the rows: score, key, number and
-// place, and where the report is truncated the point's score and key and the queue size.
+// place, and where the report is truncated the point's score and key, the generation and the queue
+// size.
 const ROWS: &str = "\
 one start, equal keys: oy 1 | oy:1;oy:1;oy:1;oy:1;oy:1;oy:1;oy:1;oy:1;oy:1;oy:1;oy:1;oy:1 \
     | 0 1 2 3 4 5 6 7 8 9 10 => 1 oy 12/0
 two starts, a tie, both queued: ab 1 | abz:5@a zzz:1@a;abc:5@b | => 5 abc 2/0
-two starts, a tie, one dropped: ab 1 | abz:5@a;abc:5@b | => cut at 5 ab, 1 queued
+two starts, a tie, one dropped: ab 1 | abz:5@a;abc:5@b | => cut at 5 ab of 7, 1 queued
 a tie that is asked for: ab 1 a=1 b=1 | abz:5@a zzz:1@a;abc:5@b | => 5 abc 2/0
 a queue that is too short: ort 1 | ort:1;ort:2;ort:3;ort:4;ort:5;ort:6 | 3 4 5 \
-    => cut at 4 ort, 2 queued
+    => cut at 4 ort of 7, 2 queued
 the same, where it suffices: ort 1 | ort:1;ort:2;ort:3;ort:4;ort:5;ort:6 | 5 => 5 ort 5/0
 nothing that precedes was dropped: ab 2 | abbey:9@a;abbot:7@a;aberdeen:8@b;abc:7@b | 2 \
     => 9 abbey 1/0, 7 abbot 2/0
 the queue went on deleted ones: ab 1 | abbey:9@a;abbot:7@a;aberdeen:8@b;abc:7@b | 0 2 \
-    => cut at 7 abbo, 2 queued
+    => cut at 7 abbo of 7, 2 queued
 a row that precedes the point: ab 2 | ab:9;ab:3;ab:5;ab:4;ab:6;ab:1 | 2 4 \
-    => 9 ab 1/0, cut at 4 ab, 3 queued
+    => 9 ab 1/0, cut at 4 ab of 7, 3 queued
 no start: b 3 | ab:9;ac:3 | =>
 no context that matches: ab 3 x=2 | ab:9;ab:3@y | =>
 the greatest boost: a 2 x=2 y=3 *=1 | ab:5@x;ac:4@y;ad:11@z | => 12 ac 2/0, 11 ad 3/0
@@ -95,7 +96,7 @@ fn searches_find_the_first_rows_or_say_where_they_stop(rt: HostRuntime) -> Resul
 fn weights(alloc: Global, count: u32) -> Result<String, Fail> {
     let mut documents = String::from_str(alloc, "ort:1")?;
     for weight in 2..=count {
-        documents.push_str(format!(in alloc; ";ort:{weight}")?.as_str())?;
+        write!(documents, ";ort:{weight}")?;
     }
     Ok(documents)
 }
@@ -104,7 +105,7 @@ fn weights(alloc: Global, count: u32) -> Result<String, Fail> {
 fn places_from(alloc: Global, first: u32, count: u32) -> Result<String, Fail> {
     let mut places = String::new(alloc);
     for place in first..count {
-        places.push_str(format!(in alloc; "{place} ")?.as_str())?;
+        write!(places, "{place} ")?;
     }
     Ok(places)
 }
@@ -114,6 +115,6 @@ fn the_longest_queue_is_spent_on_deleted_documents(rt: HostRuntime) -> Result<()
     let documents = weights(rt.alloc(), 6_000)?;
     let dead = places_from(rt.alloc(), 500, 6_000)?;
     let told = answered(rt.alloc(), "ort 500", documents.as_str(), dead.as_str())?;
-    assert_eq!(rt; told.as_str(), "cut at 1000 ort, 5000 queued");
+    assert_eq!(rt; told.as_str(), "cut at 1000 ort of 7, 5000 queued");
     Ok(())
 }

@@ -1,4 +1,4 @@
--- How a run ends, from how its reading and its writing end.
+-- How a run ends, from how its reading and its answering end.
 use Rattle.std.proofs.Common.{◌≡◌, ◌≢◌, ◌≤◌, ◌<◌, ℕ, List, ◌++◌}
 use Rattle.std.proofs.Common.{length, Option, Some, None, inl, inr, refl, ap, arith}
 use Rattle.std.proofs.Common.{length-append}
@@ -7,9 +7,7 @@ use Rattle.std.proofs.lemmas.Option.{same_Some}
 use Rattle.sg_edge.specs.Edge.{in_front, NothingLeft}
 use Rattle.sg_edge.proofs.EdgeLemmas.{stayed-rose}
 use Rattle.sg_shell.specs.Inputs.{ReadsToTheEnd}
-use Rattle.sg_shell.specs.Runs.{output_of}
-use Rattle.sg_shell.proofs.RunLemmas.{output_of-session}
-use Rattle.sg_shell.specs.Ends.{SourceMembers, SinkMembers, WriteEnds, AnswersInput, RunEnds}
+use Rattle.sg_shell.specs.Ends.{SourceMembers, SinkMembers, AnswerEnds, AnswersInput, RunEnds}
 use Rattle.sg_shell.specs.Ends.{IsFaultless, EndsByLength}
 use Rattle.sg_shell.specs.declared.reading.TheConstants.{MOST_INPUT_BYTES}
 use Rattle.sg_shell.specs.declared.status.Status.{Status}
@@ -36,24 +34,21 @@ taken_front (Some input) (Some rest) taken is within =
     omega (arith, ap length whole, length-append taken rest, within)
 
 module _ {S K : Type 0} (s : SourceMembers S) (k : SinkMembers K) where
-  -- the output to what was read is a session of it
+  -- an input that was read to its end is answered
   answers : (status : Status) (source source' : S) (sink sink' : K) (input : List ℕ)
       → ReadsToTheEnd s.left s.faults s.ended source source' input
-      → WriteEnds k (output_of input) status sink sink'
+      → AnswerEnds k input status sink sink'
       → AnswersInput s k status source source' sink sink'
   answers status source source' sink sink' input read ends = record {
     input = input;
-    output = output_of input;
     read = read;
-    exact = refl;
-    session = output_of-session input;
-    written = ends;
+    answered = ends;
   }
 
-  -- a run that reads to the end ends as its writing does
+  -- a run that reads to the end ends as its answering does
   pub run_ends-read : (status : Status) (source source' : S) (sink sink' : K) (input : List ℕ)
       → ReadsToTheEnd s.left s.faults s.ended source source' input
-      → WriteEnds k (output_of input) status sink sink'
+      → AnswerEnds k input status sink sink'
       → RunEnds s k status source source' sink sink'
   run_ends-read Done source source' sink sink' input read ends =
       answers Done source source' sink sink' input read ends
@@ -83,7 +78,7 @@ module _ {S K : Type 0} (s : SourceMembers S) (k : SinkMembers K) where
   ends_by_length ReadFault source source' sink sink' runs ends clean =
       absurd (stayed-rose _ _ clean.reading ends.0.rose)
   ends_by_length WriteFault source source' sink sink' runs ends clean =
-      absurd (stayed-rose _ _ clean.writing ends.written.rose)
+      absurd (stayed-rose _ _ clean.writing ends.answered.written.rose)
   ends_by_length TooLong source source' sink sink' runs ends clean =
       record {
         within = λ within.

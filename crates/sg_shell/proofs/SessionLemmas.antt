@@ -1,23 +1,14 @@
--- What a run prints is a session.
-use Rattle.std.proofs.Common.{◌≡◌, ◌≤◌, ◌<◌, ◌+◌, ℕ, List, [], ◌∷◌, ◌++◌, length, take, drop}
-use Rattle.std.proofs.Common.{filter, not, Option, Some, None, refl, sym, ap, ◌∙◌, arith}
-use Rattle.std.proofs.Common.{append_assoc, length-append, IfSome, add-zero}
-use Rattle.std.specs.List.{All, AllPairs, filter_map, enumerate_from, list_any}
+-- Numbers and refreshes of a transcript, one line after another.
+use Rattle.std.proofs.Common.{◌≡◌, ◌≤◌, ◌<◌, ◌+◌, ℕ, List, [], ◌∷◌, ◌++◌, length, Option, Some, None}
+use Rattle.std.proofs.Common.{refl, sym, ap, ◌∙◌, arith, length-append, IfSome, add-zero}
+use Rattle.std.specs.List.{All, AllPairs, filter_map, enumerate_from}
 use Rattle.std.proofs.lemmas.List.Elements.{All-cons, filter_map-append}
-use Rattle.std.proofs.Math.Seq.{take-append_seam, take-length}
 use Rattle.std.proofs.lemmas.List.Kept.{AllPairs-cons}
-use Rattle.sg_context.specs.Queries.{PlainQuery}
-use Rattle.sg_paths.specs.Operations.{PlainOp, documents_from}
-use Rattle.sg_paths.specs.LiveDocuments.{live_documents, deletes_id}
+use Rattle.sg_paths.specs.Operations.{PlainOp}
 use Rattle.index_core.specs.declared.limits.TheConstants.{MOST_OPERATIONS}
-use Rattle.wire_json.specs.Commands.{accepts, suggests, refused}
-use Rattle.wire_replies.specs.Replies.{numbered, rows, failed}
-use Rattle.wire_replies.specs.declared.error_kind.ErrorKind.{ErrorKind}
-use Rattle.wire_replies.specs.declared.error_kind.ErrorKind.TheVariants.{Full}
-use Rattle.sg_shell.specs.Rows.{rows_of}
-use Rattle.sg_shell.specs.Runs.{Said}
-use Rattle.sg_shell.specs.Sessions.{number_printed, upto_printed, numbered_operation, IsFull}
-use Rattle.sg_shell.specs.Sessions.{IsAnswered, StandsBefore}
+use Rattle.sg_shell.specs.Transcripts.{Said}
+use Rattle.sg_shell.specs.Sessions.{number_printed, refreshed_upto, numbered_operation, IsFull}
+use Rattle.sg_shell.specs.Sessions.{StandsBefore}
 
 -- ---- order
 
@@ -36,21 +27,21 @@ not_falling (Some m) (Some n) c low high = omega arith
 -- the reply to a line that comes after so many operations
 pub record IsAfter (count : ℕ) (e : Said) : Type 0 where
   pub number : IfSome (number_printed e.reply) (λ n. count < n)
-  pub upto : IfSome (upto_printed e.reply) (λ u. count ≤ u)
+  pub upto : IfSome (refreshed_upto e) (λ u. count ≤ u)
   pub none_when_full : MOST_OPERATIONS ≤ count → number_printed e.reply ≡ None
 
 -- the reply to a line after which there are so many operations
 pub record IsWithin (count : ℕ) (e : Said) : Type 0 where
   pub number : IfSome (number_printed e.reply) (λ n. n ≤ count)
-  pub upto : IfSome (upto_printed e.reply) (λ u. u ≤ count)
+  pub upto : IfSome (refreshed_upto e) (λ u. u ≤ count)
   pub full : IsFull e → MOST_OPERATIONS ≤ count
 
 precedes : (count : ℕ) (e f : Said) → IsWithin count e → IsAfter count f → StandsBefore e f
 precedes count e f low high = record {
   numbers = rising (number_printed e.reply) (number_printed f.reply) count low.number high.number;
-  sees = not_falling (number_printed e.reply) (upto_printed f.reply) count low.number high.upto;
-  never_back = not_falling (upto_printed e.reply) (upto_printed f.reply) count low.upto high.upto;
-  foresees_none = rising (upto_printed e.reply) (number_printed f.reply) count low.upto high.number;
+  sees = not_falling (number_printed e.reply) (refreshed_upto f) count low.number high.upto;
+  never_back = not_falling (refreshed_upto e) (refreshed_upto f) count low.upto high.upto;
+  foresees_none = rising (refreshed_upto e) (number_printed f.reply) count low.upto high.number;
   full_last = λ is. high.none_when_full (low.full is);
 }
 
@@ -69,7 +60,7 @@ at_most (Some n) c d le h = omega arith
 after_fewer : (c d : ℕ) (e : Said) → c ≤ d → IsAfter d e → IsAfter c e
 after_fewer c d e le h = record {
   number = above (number_printed e.reply) c d le h.number;
-  upto = at_least (upto_printed e.reply) c d le h.upto;
+  upto = at_least (refreshed_upto e) c d le h.upto;
   none_when_full = λ full. h.none_when_full (omega arith);
 }
 
@@ -82,15 +73,6 @@ enumerate_from-append n (x ∷ xs) ys =
     let e : n + length (x ∷ xs) ≡ n + 1 + length xs = omega arith in
     rw e (ap (λ ps. (n, x) ∷ ps) (enumerate_from-append (n + 1) xs ys))
 
--- what is live after so many operations depends on these alone
-live_documents-append : (journal more : List PlainOp)
-    → live_documents (journal ++ more) (length journal) ≡ live_documents journal (length journal)
-live_documents-append journal more =
-    let same : take (length journal) (journal ++ more) ≡ take (length journal) journal =
-    take-append_seam journal more ∙ sym (take-length journal) in
-    ap (λ first. filter (λ d. not (list_any (deletes_id d.document.id) (drop d.seq first)))
-    (documents_from 1 first)) same
-
 -- ---- transcripts
 
 -- the transcript of lines that come after a journal, and accept more operations
@@ -100,16 +82,13 @@ pub record Follows (journal : List PlainOp) (t : List Said) (more : List PlainOp
   pub numbers : filter_map numbered_operation t ≡ enumerate_from (length journal + 1) more
   pub most : length journal + length more ≤ MOST_OPERATIONS
   pub full : All (λ e. IsFull e → length journal + length more ≡ MOST_OPERATIONS) t
-  pub at_most : All (λ e. IfSome (upto_printed e.reply) (λ u. u ≤ length journal + length more)) t
-  pub answered : All (λ e. IsAnswered (journal ++ more) e.line.command e.reply) t
+  pub at_most : All (λ e. IfSome (refreshed_upto e) (λ u. u ≤ length journal + length more)) t
 
 -- the reply to one line that comes after a journal, and accepts these operations
 pub record IsNext (journal : List PlainOp) (e : Said) (now : List PlainOp) : Type 0 where
   pub after : IsAfter (length journal) e
   pub within : IsWithin (length journal + length now) e
   pub numbers : filter_map numbered_operation (e ∷ []) ≡ enumerate_from (length journal + 1) now
-  pub answered : (more : List PlainOp)
-      → IsAnswered (journal ++ (now ++ more)) e.line.command e.reply
 
 pub follows-nil : (journal : List PlainOp) → length journal ≤ MOST_OPERATIONS
     → Follows journal [] []
@@ -120,7 +99,6 @@ follows-nil journal most = record {
   most = omega arith;
   full = λ k d h. absurd (omega arith);
   at_most = λ k d h. absurd (omega arith);
-  answered = λ k d h. absurd (omega arith);
 }
 
 pub follows-cons : (journal now more : List PlainOp) (e : Said) (t : List Said)
@@ -129,8 +107,6 @@ follows-cons journal now more e t next later =
     let count : length (journal ++ now) ≡ length journal + length now = length-append journal now in
     let total : length (now ++ more) ≡ length now + length more = length-append now more in
     let within : IsWithin (length (journal ++ now)) e = rw count next.within in
-    let whole : (journal ++ now) ++ more ≡ journal ++ (now ++ more) =
-    append_assoc journal now more in
     record {
       after = All-cons (IsAfter (length journal)) e t next.after
           (λ k d h. after_fewer (length journal) (length (journal ++ now)) _ (omega (arith, count))
@@ -149,77 +125,67 @@ follows-cons journal now more e t next later =
           (λ is. let reached = next.within.full is in let m =
           later.most in omega (arith, reached, m, count, total))
           (λ k d h is. let reached = later.full k d h is in omega (arith, reached, count, total));
-      at_most = All-cons (λ e. IfSome (upto_printed e.reply) (λ u. u ≤ length journal + length
+      at_most = All-cons (λ e. IfSome (refreshed_upto e) (λ u. u ≤ length journal + length
           (now ++ more))) e t
-          (at_most (upto_printed e.reply) (length journal + length now) _ (omega
+          (at_most (refreshed_upto e) (length journal + length now) _ (omega
           (arith, total)) next.within.upto)
           (λ k d h. at_most _ (length (journal ++ now) + length more) _ (omega
           (arith, count, total)) (later.at_most k d h));
-      answered = All-cons (λ e. IsAnswered (journal ++ (now ++ more)) e.line.command e.reply) e t
-          (next.answered more)
-          (λ k d h. rw (← whole) (later.answered k d h));
     }
 
 -- ---- lines
 
 -- a new number
-pub next-numbered : (journal : List PlainOp) (line lane : ℕ) (operation : PlainOp)
-    → length journal < MOST_OPERATIONS
-    → IsNext journal
-    (record {
-      line = record { number = line; command = accepts lane operation };
-      reply =
-          numbered line (length journal + 1);
-    })
-    (operation ∷ [])
-next-numbered journal line lane operation room = record {
-  after = record { number = omega arith; upto = tt; none_when_full = λ full. absurd (omega arith) };
-  within = record { number = omega arith; upto = tt; full = λ is. cc };
-  numbers = refl;
-  answered = λ more. tt;
+pub next-numbered : (journal : List PlainOp) (e : Said) (operation : PlainOp)
+    → length journal < MOST_OPERATIONS → number_printed e.reply ≡ Some (length journal + 1)
+    → refreshed_upto e ≡ None → numbered_operation e ≡ Some (length journal + 1, operation)
+    → (IsFull e → ⊥) → IsNext journal e (operation ∷ [])
+next-numbered journal e operation room number no_view is not_full = record {
+  after = record {
+    number = rw number (omega arith);
+    upto = rw no_view tt;
+    none_when_full = λ full. absurd (omega arith);
+  };
+  within = record {
+    number = rw number (omega arith);
+    upto = rw no_view tt;
+    full = λ full. absurd (not_full full);
+  };
+  numbers = rw is refl;
 }
 
--- no room for one more
-pub next-full : (journal : List PlainOp) (line lane : ℕ) (operation : PlainOp)
-    → MOST_OPERATIONS ≤ length journal
-    → IsNext journal
-    (record {
-      line = record { number = line; command = accepts lane operation };
-      reply =
-          failed line Full;
-    })
-    []
-next-full journal line lane operation full = record {
-  after = record { number = tt; upto = tt; none_when_full = λ _. refl };
-  within = record { number = tt; upto = tt; full = λ is. omega arith };
-  numbers = refl;
-  answered = λ more. tt;
+-- neither a number nor a view
+pub next-none : (journal : List PlainOp) (e : Said) → number_printed e.reply ≡ None
+    → refreshed_upto e ≡ None → numbered_operation e ≡ None
+    → (IsFull e → MOST_OPERATIONS ≤ length journal) → IsNext journal e []
+next-none journal e no_number no_view is full = record {
+  after = record {
+    number = rw no_number tt;
+    upto = rw no_view tt;
+    none_when_full = λ _. no_number;
+  };
+  within = record {
+    number = rw no_number tt;
+    upto = rw no_view tt;
+    full = λ so. (let reached = full so in omega (arith, reached));
+  };
+  numbers = rw is refl;
 }
 
--- an answer over all operations so far
-pub next-rows : (journal : List PlainOp) (line lane : ℕ) (query : PlainQuery)
-    → IsNext journal
-    (record {
-      line = record { number = line; command = suggests lane query None };
-      reply = rows line (length journal) (rows_of query (live_documents journal
-          (length journal))) None;
-    })
-    []
-next-rows journal line lane query = record {
-  after = record { number = tt; upto = omega arith; none_when_full = λ _. refl };
-  within = record { number = tt; upto = omega arith; full = λ is. absurd is };
-  numbers = refl;
-  answered = λ more. ap (rows_of query) (sym (live_documents-append journal more));
-}
-
--- an error of the line itself
-pub next-refused : (journal : List PlainOp) (line : ℕ) (kind : ErrorKind)
-    → IsNext journal
-    (record { line = record { number = line; command = refused kind }; reply = failed line kind })
-    []
-next-refused journal line kind = record {
-  after = record { number = tt; upto = tt; none_when_full = λ _. refl };
-  within = record { number = tt; upto = tt; full = λ is. absurd is };
-  numbers = refl;
-  answered = λ more. tt;
+-- a view of all operations so far
+pub next-begun : (journal : List PlainOp) (e : Said) → number_printed e.reply ≡ None
+    → refreshed_upto e ≡ Some (length journal) → numbered_operation e ≡ None
+    → (IsFull e → ⊥) → IsNext journal e []
+next-begun journal e no_number view is not_full = record {
+  after = record {
+    number = rw no_number tt;
+    upto = rw view (omega arith);
+    none_when_full = λ _. no_number;
+  };
+  within = record {
+    number = rw no_number tt;
+    upto = rw view (omega arith);
+    full = λ so. absurd (not_full so);
+  };
+  numbers = rw is refl;
 }

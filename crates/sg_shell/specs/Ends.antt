@@ -4,7 +4,6 @@ use Rattle.std.specs.Prelude.{Option, codes, bytes_eq, IsSomeAnd}
 use Rattle.sg_edge.specs.Edge.{behind, Rose, Stayed}
 use Rattle.sg_shell.specs.Outputs.{StopsInside}
 use Rattle.sg_shell.specs.Inputs.{ReadsToTheEnd, StopsAtFault, StopsTooLong, StopsWithoutMemory}
-use Rattle.sg_shell.specs.Runs.{output_of}
 use Rattle.sg_shell.specs.Sessions.{Session}
 use Rattle.sg_shell.specs.declared.reading.TheConstants.{MOST_INPUT_BYTES}
 use Rattle.sg_shell.specs.declared.status.Status.{Status}
@@ -63,15 +62,28 @@ WriteEnds k output Usage old new = ⊥
 WriteEnds k output ReadFault old new = ⊥
 WriteEnds k output TooLong old new = ⊥
 
+-- the writing of an output, which is a session of the input, ended so
+pub record WritesSession {K : Type 0} (k : SinkMembers K) (input : List ℕ) (status : Status)
+    (old new : K) : Type 0 where
+  pub output : List ℕ
+  pub session : Session input output
+  pub written : WriteEnds k output status old new
+
+-- how the answering of an input ends: memory may run out before there is an output
+abbrev pub AnswerEnds : {K : Type 0} → SinkMembers K → List ℕ → Status → K → K → Type 0
+AnswerEnds k input Memory old new = (new ≡ old) ⊎ WritesSession k input Memory old new
+AnswerEnds k input Done old new = WritesSession k input Done old new
+AnswerEnds k input WriteFault old new = WritesSession k input WriteFault old new
+AnswerEnds k input Usage old new = ⊥
+AnswerEnds k input ReadFault old new = ⊥
+AnswerEnds k input TooLong old new = ⊥
+
 module _ {S K : Type 0} (s : SourceMembers S) (k : SinkMembers K) where
-  -- the input was read to its end, and the writing of its output, which is a session, ended so
+  -- the input was read to its end, and its answering ended so
   pub record AnswersInput (status : Status) (source source' : S) (sink sink' : K) : Type 0 where
     pub input : List ℕ
-    pub output : List ℕ
     pub read : ReadsToTheEnd s.left s.faults s.ended source source' input
-    pub exact : output ≡ output_of input
-    pub session : Session input output
-    pub written : WriteEnds k output status sink sink'
+    pub answered : AnswerEnds k input status sink sink'
 
   -- what each status says of the source and the sink, before and after
   abbrev pub RunEnds : Status → S → S → K → K → Type 0

@@ -1,10 +1,15 @@
 pub mod Limits
 pub mod Lines
 pub mod Rows
-pub mod LastDeletes
+pub mod Workers
+pub mod Transcripts
 pub mod Runs
 pub mod Sessions
+pub mod Viewed
+pub mod Working
+pub mod RunLaws
 pub mod Statuses
 pub mod Inputs
 pub mod Outputs
 pub mod Ends
+pub mod Flushing

@@ -1,12 +1,10 @@
 -- The rows that a query prints. Source: this project's own; which rows answer a query is said where
--- the answer is.
-use Rattle.std.specs.Prelude.{ℕ, ◌==◌, List, [], Option, Some, None, find, slice_get, map}
+-- reports are.
+use Rattle.std.specs.Prelude.{ℕ, ◌==◌, List, [], Option, Some, None, find, slice_get, map, take}
 use Rattle.std.specs.Option.{option_map_or}
 use Rattle.sg_base.specs.declared.rank.Rank.{Rank}
-use Rattle.sg_context.specs.Queries.{PlainQuery}
 use Rattle.sg_paths.specs.Documents.{PlainSuggestion}
-use Rattle.sg_paths.specs.Operations.{PlainNumbered}
-use Rattle.sg_answers.specs.Answers.{first_rows}
+use Rattle.sg_paths.specs.Operations.{PlainOp, PlainNumbered, documents_from}
 use Rattle.wire_replies.specs.Rows.{Row}
 
 -- the text of the suggestion at a place
@@ -29,6 +27,6 @@ row_by r (Some d) =
 abbrev pub row_of : List PlainNumbered → Rank → Row
 row_of ds r = row_by r (find (λ d. d.seq == r.seq) ds)
 
--- what a query prints: as many rows of the answer as it asks for
-abbrev pub rows_of : PlainQuery → List PlainNumbered → List Row
-rows_of query ds = map (row_of ds) (first_rows query ds)
+-- rows as they are printed, by the documents that the first upto operations of a journal brought
+abbrev pub printed_rows : List PlainOp → ℕ → List Rank → List Row
+printed_rows journal upto ranks = map (row_of (documents_from 1 (take upto journal))) ranks

@@ -1,26 +1,34 @@
-//! What each line does to the core, and what it prints.
-ghost use Rattle.std.specs.Prelude.{◌≡◌, ◌<◌, ◌^◌, IfOk, OnOk, Some, length, option_map};
+//! What each line does to the index and to the named views, and what it prints.
+ghost use Rattle.std.specs.Prelude.{◌≡◌, ◌≤◌, ℕ, [], None, bytes_eq, Contains, IfOk, option_map, map};
+ghost use Rattle.std.specs.List.{position_from};
 ghost use Rattle.sg_paths.specs.Operations.{plain_op};
-ghost use Rattle.sg_paths.specs.LiveDocuments.{live_documents};
+ghost use Rattle.index_core.specs.Histories.{Record};
 ghost use Rattle.index_core.specs.Records.{open_views};
-ghost use Rattle.index_core.specs.declared.limits.TheConstants.{MOST_OPEN_VIEWS};
-ghost use Rattle.index_core.specs.OpenViews.{operations_of};
-ghost use Rattle.wire_json.specs.Commands.{command_of};
+ghost use Rattle.index_core.specs.Calls.{empty_record, after_end};
+ghost use Rattle.sg_answers.specs.declared.limits.TheConstants.{MOST_QUEUED};
+ghost use Rattle.wire_json.specs.Commands.{suggests, command_of};
 ghost use Rattle.wire_json.specs.CommandForms.{plain_command, IsRead};
 ghost use Rattle.wire_replies.specs.ReplyForms.{plain_reply};
-ghost use Rattle.sg_shell.specs.Rows.{rows_of};
-ghost use Rattle.sg_shell.specs.Runs.{accept_step, suggest_step, step, standard};
+ghost use Rattle.sg_shell.specs.Transcripts.{standard};
+ghost use Rattle.sg_shell.specs.Workers.{Worker as PlainWorker, accept_step, query_step, named_step};
+ghost use Rattle.sg_shell.specs.Workers.{open_step, close_step, step, named, with_seen};
+ghost use Rattle.sg_shell.specs.Runs.{IsReportReply};
+ghost use Rattle.sg_shell.specs.Working.{IsRunning, Passes, IsWorking, IsShown, Answers, MayAnswer};
+ghost use Rattle.sg_shell.specs.Working.{worker_of, open_of, view_in, Holds};
 
-use crate::live::live_documents;
-use crate::rows::rows_for;
-use index_core::{Core, Refused, ViewError, ViewParts, Why};
+use crate::flushing::flush;
+use crate::opened::{Opened, end_opened, position_of};
+use crate::viewing::{answer_in, begin, end};
+use index_core::{Core, Refused, Why};
+use path_desk::Desk;
 use sg_analysis::Analyzer;
-use sg_base::List;
+use sg_base::Text;
 use sg_context::Query;
 use sg_paths::Op;
+use sg_view::View;
 use std::alloc::{AllocError, Global};
 use wire_json::{Command, command};
-use wire_replies::{ErrorKind, OutRow, Reply};
+use wire_replies::{ErrorKind, Reply};
 
 /// The number under which the program calls its index.
 pub(crate) const CALLER: u32 = 0;
@@ -31,11 +39,47 @@ const STANDARD: Analyzer = Analyzer { separators: true };
 /// How many workers answer the lines.
 pub(crate) const LANES: u32 = 1;
 
+/// One worker: the index, the memory of its searches, and its named views in the order of their
+/// opening. It can't be dropped: the views are given back.
+pub(crate) struct Worker {
+    pub core: Core,
+    pub desk: Desk,
+    pub opened: Vec<Opened>,
+}
+
+impl Worker {
+    pub(crate) fn new(alloc: Global) -> Worker
+        ensures core { result.core ≡ empty_record }
+        ensures opened { result.opened.items ≡ [] }
+    {
+        Worker {
+            core: Core::new(alloc),
+            desk: Desk::new(alloc),
+            opened: Vec::new(alloc),
+        }
+    }
+
+    /// Ends all named views. Takes no memory.
+    pub(crate) fn give_back(self)
+        requires { Holds (worker_of self.core self.opened.items) }
+    {
+        let Worker {
+            mut core,
+            desk: _,
+            mut opened,
+        } = self;
+        while let Some(last) = opened.pop() {
+            end_opened(&mut core, last);
+        }
+        opened.destroy_empty();
+    }
+}
+
 fn accept(core: &mut Core, line: u64, op: Op) -> Result<Reply, AllocError>
-    ensures reply { IfOk result (λ r. Some (plain_reply r)
-        ≡ (accept_step line (plain_op op) core.old).reply) }
-    ensures after { OnOk result (core.new ≡ (accept_step line (plain_op op) core.old).after) }
-    ensures views { open_views core.new ≡ open_views core.old }
+    ensures reply { IfOk result (λ r. (w : PlainWorker) → w.seen ≡ core.old
+        → Answers line (accept_step CALLER line (plain_op op) w) (plain_reply r)
+        (with_seen core.new w)) }
+    ensures passes { Passes core.old core.new }
 {
     match core.accept(CALLER, op) {
         Ok(seq) => Ok(Reply::Seq { line, seq }),
@@ -49,89 +93,249 @@ fn accept(core: &mut Core, line: u64, op: Op) -> Result<Reply, AllocError>
     }
 }
 
-// The rows of a query over the documents of a view that are live.
-fn rows_in(alloc: Global, parts: &ViewParts, query: &Query) -> Result<Vec<OutRow>, AllocError>
-    requires { length (operations_of parts.now.pieces) < 2 ^ 63 }
-    ensures { IfOk result (λ rows. rows.items ≡ rows_of query.now
-        (live_documents (operations_of parts.now.pieces)
-        (length (operations_of parts.now.pieces)))) }
+// Answers a query in a view, and ends the view before the answer is looked at.
+fn answer_and_end(
+    core: &mut Core,
+    desk: &mut Desk,
+    alloc: Global,
+    line: u64,
+    query: &Query,
+    view: View,
+) -> Result<Reply, AllocError>
+    requires { Contains (open_views core.old) (view_in view) }
+    ensures reply { IfOk result (λ reply. (r : Record) → IsShown r view
+        → IsReportReply line (plain_reply reply) r (view_in view) query.now) }
+    ensures few { query.now.k ≤ MOST_QUEUED }
+    ensures ended { core.new ≡ after_end CALLER view.number core.old }
 {
-    let live = live_documents(alloc, parts.pieces.items())?;
-    rows_for(alloc, query, live.as_slice())
+    let reply = answer_in(desk, alloc, &view, line, query);
+    end(core, view);
+    reply
 }
 
-// The view is given back before the rows are looked at.
-fn suggest(core: &mut Core, alloc: Global, line: u64, query: &Query) -> Result<Reply, AllocError>
-    requires { length (open_views core.old) < MOST_OPEN_VIEWS }
-    ensures reply { IfOk result (λ r. Some (plain_reply r)
-        ≡ (suggest_step line query.now core.old).reply) }
-    ensures after { OnOk result (core.new ≡ (suggest_step line query.now core.old).after) }
-    ensures views { open_views core.new ≡ open_views core.old }
+fn query(
+    core: &mut Core,
+    desk: &mut Desk,
+    alloc: Global,
+    line: u64,
+    query: &Query,
+) -> Result<Reply, AllocError>
+    requires running { IsRunning core.old }
+    ensures reply { IfOk result (λ r. (w : PlainWorker) → w.seen ≡ core.old
+        → Answers line (query_step CALLER line query.now w) (plain_reply r)
+        (with_seen core.new w)) }
+    ensures passes { Passes core.old core.new }
 {
-    let upto = core.accepted();
-    let parts = match core.begin_view(CALLER) {
-        Ok(parts) => parts,
-        Err(ViewError::TooMany { .. }) => unreachable!(),
-        Err(ViewError::Memory) => return Err(AllocError),
-    };
-    let rows = rows_in(alloc, &parts, query);
-    let _ = core.end_view(CALLER, parts);
-    Ok(Reply::Rows {
-        line,
-        upto,
-        rows: List::of(rows?),
-        cut: None,
-    })
+    flush(core, alloc)?;
+    match begin(core, alloc)? {
+        Some(view) => {
+            let reply = answer_and_end(core, desk, alloc, line, query, view)?;
+            Ok(reply)
+        }
+        None => Ok(Reply::Error {
+            line,
+            error: ErrorKind::Views,
+        }),
+    }
+}
+
+fn ask(
+    core: &Core,
+    opened: &Vec<Opened>,
+    desk: &mut Desk,
+    alloc: Global,
+    line: u64,
+    query: &Query,
+    name: &Text,
+) -> Result<Reply, AllocError>
+    requires { IsWorking core.now opened.now.items }
+    ensures { IfOk result (λ r. Answers line
+        (named_step line query.now (named name.now (map open_of opened.now.items))
+        (worker_of core.now opened.now.items)) (plain_reply r)
+        (worker_of core.now opened.now.items)) }
+{
+    match position_of(opened, name) {
+        Some(at) => {
+            let found = &opened[at];
+            let reply = answer_in(desk, alloc, &found.view, line, query)?;
+            Ok(reply)
+        }
+        None => Ok(Reply::Error {
+            line,
+            error: ErrorKind::View,
+        }),
+    }
+}
+
+// A view under a name that no other has.
+fn open_new(
+    core: &mut Core,
+    opened: &mut Vec<Opened>,
+    alloc: Global,
+    line: u64,
+    name: Text,
+) -> Result<Reply, AllocError>
+    requires working { IsWorking core.old opened.old.items }
+    requires new { position_from (λ o. bytes_eq o.name name) 0 opened.old.items ≡ None }
+    ensures reply { IfOk result (λ r. Answers line
+        (open_step CALLER line name (named name (map open_of opened.old.items))
+        (worker_of core.old opened.old.items)) (plain_reply r)
+        (worker_of core.new opened.new.items)) }
+    ensures working { IsWorking core.new opened.new.items }
+{
+    // A place for the view, before it begins.
+    opened.reserve(1)?;
+    let shown = Text::of(alloc, name.as_str())?;
+    flush(core, alloc)?;
+    match begin(core, alloc)? {
+        Some(view) => {
+            let upto = view.upto();
+            opened.push_reserved(Opened { name, view });
+            Ok(Reply::Opened {
+                line,
+                view: shown,
+                upto,
+            })
+        }
+        None => Ok(Reply::Error {
+            line,
+            error: ErrorKind::Views,
+        }),
+    }
+}
+
+fn open(
+    core: &mut Core,
+    opened: &mut Vec<Opened>,
+    alloc: Global,
+    line: u64,
+    name: Text,
+) -> Result<Reply, AllocError>
+    requires { IsWorking core.old opened.old.items }
+    ensures reply { IfOk result (λ r. Answers line
+        (open_step CALLER line name (named name (map open_of opened.old.items))
+        (worker_of core.old opened.old.items)) (plain_reply r)
+        (worker_of core.new opened.new.items)) }
+    ensures working { IsWorking core.new opened.new.items }
+{
+    match position_of(opened, &name) {
+        None => open_new(core, opened, alloc, line, name),
+        Some(_) => Ok(Reply::Error {
+            line,
+            error: ErrorKind::View,
+        }),
+    }
+}
+
+fn close(core: &mut Core, opened: &mut Vec<Opened>, line: u64, name: Text) -> Reply
+    requires { IsWorking core.old opened.old.items }
+    ensures reply { Answers line
+        (close_step CALLER line name (named name (map open_of opened.old.items))
+        (worker_of core.old opened.old.items)) (plain_reply result)
+        (worker_of core.new opened.new.items) }
+    ensures working { IsWorking core.new opened.new.items }
+{
+    match position_of(opened, &name) {
+        Some(at) => {
+            let closed = opened.remove(at);
+            end_opened(core, closed);
+            Reply::Closed { line, view: name }
+        }
+        None => Reply::Error {
+            line,
+            error: ErrorKind::View,
+        },
+    }
+}
+
+fn suggest(
+    worker: &mut Worker,
+    alloc: Global,
+    line: u64,
+    asked: &Query,
+    view: Option<Text>,
+) -> Result<Reply, AllocError>
+    requires { IsWorking worker.old.core worker.old.opened.items }
+    ensures reply { IfOk result (λ r. (lane : ℕ) → Answers line
+        (step CALLER line (suggests lane asked.now view)
+        (worker_of worker.old.core worker.old.opened.items)) (plain_reply r)
+        (worker_of worker.new.core worker.new.opened.items)) }
+    ensures working { IsWorking worker.new.core worker.new.opened.items }
+{
+    match view {
+        None => {
+            let reply = query(&mut worker.core, &mut worker.desk, alloc, line, asked)?;
+            Ok(reply)
+        }
+        Some(name) => ask(
+            &worker.core,
+            &worker.opened,
+            &mut worker.desk,
+            alloc,
+            line,
+            asked,
+            &name,
+        ),
+    }
 }
 
 /// What a command prints as line number `line`, if it prints anything.
 fn step(
-    core: &mut Core,
+    worker: &mut Worker,
     alloc: Global,
     line: u64,
     command: Command,
 ) -> Result<Option<Reply>, AllocError>
-    requires few { length (open_views core.old) < MOST_OPEN_VIEWS }
+    requires working { IsWorking worker.old.core worker.old.opened.items }
     requires read { IsRead (plain_command command) }
-    ensures reply { IfOk result (λ r. option_map plain_reply r
-        ≡ (step line (plain_command command) core.old).reply) }
-    ensures after { OnOk result (core.new ≡ (step line (plain_command command) core.old).after) }
-    ensures views { open_views core.new ≡ open_views core.old }
+    ensures reply { IfOk result (λ r. MayAnswer line
+        (step CALLER line (plain_command command)
+        (worker_of worker.old.core worker.old.opened.items)) (option_map plain_reply r)
+        (worker_of worker.new.core worker.new.opened.items)) }
+    ensures working { IsWorking worker.new.core worker.new.opened.items }
 {
     match command {
         Command::Blank => Ok(None),
-        Command::Accept { lane: _, op } => Ok(Some(accept(core, line, op)?)),
+        Command::Accept { lane: _, op } => Ok(Some(accept(&mut worker.core, line, op)?)),
         Command::Suggest {
             lane: _,
             query,
-            view: None,
-        } => Ok(Some(suggest(core, alloc, line, &query)?)),
+            view,
+        } => Ok(Some(suggest(worker, alloc, line, &query, view)?)),
+        Command::OpenView { lane: _, name } => Ok(Some(open(
+            &mut worker.core,
+            &mut worker.opened,
+            alloc,
+            line,
+            name,
+        )?)),
+        Command::CloseView { lane: _, name } => Ok(Some(close(
+            &mut worker.core,
+            &mut worker.opened,
+            line,
+            name,
+        ))),
         // No line asks for these, and the caller knows.
-        Command::Suggest { .. }
-        | Command::OpenView { .. }
-        | Command::CloseView { .. }
-        | Command::Flush { .. }
-        | Command::Merge { .. }
-        | Command::Barrier => unreachable!(),
+        Command::Flush { .. } | Command::Merge { .. } | Command::Barrier => unreachable!(),
     }
 }
 
 /// What a line prints as line number `line`, if it prints anything.
 pub(crate) fn answer(
-    core: &mut Core,
+    worker: &mut Worker,
     alloc: Global,
     line: u64,
     bytes: &[u8],
 ) -> Result<Option<Reply>, AllocError>
-    requires { length (open_views core.old) < MOST_OPEN_VIEWS }
-    ensures reply { IfOk result (λ r. option_map plain_reply r
-        ≡ (step line (command_of standard LANES bytes.now) core.old).reply) }
-    ensures after { OnOk result (core.new
-        ≡ (step line (command_of standard LANES bytes.now) core.old).after) }
-    ensures views { open_views core.new ≡ open_views core.old }
+    requires { IsWorking worker.old.core worker.old.opened.items }
+    ensures reply { IfOk result (λ r. MayAnswer line
+        (step CALLER line (command_of standard LANES bytes.now)
+        (worker_of worker.old.core worker.old.opened.items)) (option_map plain_reply r)
+        (worker_of worker.new.core worker.new.opened.items)) }
+    ensures working { IsWorking worker.new.core worker.new.opened.items }
 {
     match command(alloc, bytes, LANES, &STANDARD) {
-        Ok(command) => step(core, alloc, line, command),
+        Ok(command) => step(worker, alloc, line, command),
         Err(refused) => match refused.kind() {
             Some(error) => Ok(Some(Reply::Error { line, error })),
             None => Err(AllocError),

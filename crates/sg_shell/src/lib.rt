@@ -3,16 +3,22 @@
 #![tactic(auto)]
 
 mod engine;
+mod flushing;
+mod laws;
 mod lines;
-mod live;
+mod opened;
 mod program;
 mod reading;
 mod replying;
-mod rows;
 mod running;
 mod status;
+mod viewing;
 mod writing;
 
+pub use laws::{
+    named_views_are_open, names_are_kept, one_line_more, only_truncated_replies_differ,
+    reports_are_answers, views_meet_their_reports,
+};
 pub use program::{limits_are_exact, run_program};
 pub use running::run;
 pub use status::Status;

@@ -1,11 +1,12 @@
 //! The replies to an input.
-ghost use Rattle.std.specs.Prelude.{◌≡◌, ◌≤◌, ◌^◌, ◌++◌, OnOk, IfOk, length, option_map};
+ghost use Rattle.std.specs.Prelude.{◌≡◌, ◌≤◌, ◌^◌, ◌++◌, [], OnOk, IfOk, length, option_map};
 ghost use Rattle.wire_replies.specs.ReplyForms.{plain_reply};
-ghost use Rattle.sg_shell.specs.Runs.{printed, output_of};
+ghost use Rattle.sg_shell.specs.Sessions.{Session};
+ghost use Rattle.index_core.specs.Calls.{empty_record};
+ghost use Rattle.sg_shell.specs.Working.{worker_of, Holds, printed};
 
-use crate::engine::answer;
+use crate::engine::{Worker, answer};
 use crate::lines::first_line;
-use index_core::Core;
 use std::alloc::{AllocError, Global};
 use wire_replies::{Reply, reply};
 
@@ -24,21 +25,33 @@ fn push_reply(
     Ok(())
 }
 
-/// The replies to the lines of an input, in order. Time and memory are linear in the input and the
-/// output, beside what each query takes.
-pub(crate) fn replies_to(alloc: Global, input: &[u8]) -> Result<Vec<u8>, AllocError>
-    requires { length input.now ≤ 2 ^ 30 }
-    ensures { IfOk result (λ output. output.items ≡ output_of input.now) }
+fn replies_by(worker: &mut Worker, alloc: Global, input: &[u8]) -> Result<Vec<u8>, AllocError>
+    requires fits { length input.now ≤ 2 ^ 30 }
+    requires core { worker.old.core ≡ empty_record }
+    requires opened { worker.old.opened.items ≡ [] }
+    ensures session { IfOk result (λ output. Session input.now output.items) }
+    ensures holds { Holds (worker_of worker.new.core worker.new.opened.items) }
 {
-    let mut core = Core::new(alloc);
     let mut output = Vec::new(alloc);
     let mut number = 0u64;
     let mut rest = input;
     while let Some(split) = first_line(rest) {
         rest = split.rest;
         number += 1;
-        let answered = answer(&mut core, alloc, number, split.line)?;
+        let answered = answer(worker, alloc, number, split.line)?;
         push_reply(alloc, &mut output, answered)?;
     }
     Ok(output)
+}
+
+/// The replies to the lines of an input, in order. Time and memory are linear in the input and the
+/// output, beside what each query takes. All views are given back.
+pub(crate) fn replies_to(alloc: Global, input: &[u8]) -> Result<Vec<u8>, AllocError>
+    requires { length input.now ≤ 2 ^ 30 }
+    ensures { IfOk result (λ output. Session input.now output.items) }
+{
+    let mut worker = Worker::new(alloc);
+    let output = replies_by(&mut worker, alloc, input);
+    worker.give_back();
+    output
 }

@@ -1,9 +1,8 @@
 //! The top call.
 ghost use Rattle.std.specs.Prelude.{◌≡◌, ◌≢◌, ◌≤◌, ◌↔◌, true, false, length};
-ghost use Rattle.sg_shell.specs.Runs.{output_of};
 ghost use Rattle.sg_shell.specs.declared.reading.TheConstants.{MOST_INPUT_BYTES};
-ghost use Rattle.sg_shell.specs.Ends.{is_run, source_of, sink_of, WriteEnds, RunEnds, IsFaultless};
-ghost use Rattle.sg_shell.specs.Ends.{EndsByLength};
+ghost use Rattle.sg_shell.specs.Ends.{is_run, source_of, sink_of, WriteEnds, AnswerEnds, RunEnds};
+ghost use Rattle.sg_shell.specs.Ends.{IsFaultless, EndsByLength};
 
 use crate::reading::{ReadError, read_input};
 use crate::replying::replies_to;
@@ -32,7 +31,7 @@ fn write_output<K: Sink>(sink: &mut K, output: &[u8]) -> Status
 // Answers an input that was read to its end.
 fn answer_input<K: Sink>(alloc: Global, input: &[u8], sink: &mut K) -> Status
     requires { length input.now ≤ MOST_INPUT_BYTES }
-    ensures { WriteEnds (sink_of K.given K.faults) (output_of input.now) result sink.old sink.new }
+    ensures { AnswerEnds (sink_of K.given K.faults) input.now result sink.old sink.new }
 {
     match replies_to(alloc, input) {
         Ok(output) => write_output(sink, output.as_slice()),

@@ -98,10 +98,11 @@ command_by_form-change analyzer lanes how lane id ds l o d at is document =
     rw (at, is, document) refl
 
 pub command_by_form-suggest : (analyzer : Analyzer) (lanes : ℕ) (lane : Option Data)
-    (prefix : List ℕ) (o : QueryOptions) (l : ℕ) (q : PlainQuery)
-    → l ≡ lane_or_first lanes lane → q ≡ query_of analyzer prefix o
-    → command_by_form analyzer lanes (suggest lane prefix o) ≡ suggests l q None
-command_by_form-suggest analyzer lanes lane prefix o l q at is = rw (at, is) refl
+    (prefix : List ℕ) (o : QueryOptions) (view : Option (List ℕ)) (l : ℕ) (q : PlainQuery)
+    (v : Option (List ℕ))
+    → l ≡ lane_or_first lanes lane → q ≡ query_of analyzer prefix o → v ≡ view
+    → command_by_form analyzer lanes (suggest lane prefix o view) ≡ suggests l q v
+command_by_form-suggest analyzer lanes lane prefix o view l q v at is same = rw (at, is, same) refl
 
 pub query_of-key : (analyzer : Analyzer) (prefix : List ℕ) (o : QueryOptions) (key : Keyed)
     (q : PlainQuery) → key ≡ prefix_key analyzer prefix

@@ -51,9 +51,9 @@ MayWantMemory line other = ⊤
 abbrev pub IsRead : plain.Command → Type 0
 IsRead plain.blank = ⊤
 IsRead (plain.accepts lane operation) = ⊤
-IsRead (plain.suggests lane query view) = view ≡ None
-IsRead (plain.opens lane name) = ⊥
-IsRead (plain.closes lane name) = ⊥
+IsRead (plain.suggests lane query view) = ⊤
+IsRead (plain.opens lane name) = ⊤
+IsRead (plain.closes lane name) = ⊤
 IsRead (plain.flushes lane) = ⊥
 IsRead (plain.merges lane) = ⊥
 IsRead plain.barrier = ⊥

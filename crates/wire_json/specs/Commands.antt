@@ -1,6 +1,6 @@
 -- What a line asks for. Source: this project's own.
 use Rattle.std.specs.Prelude.{ℕ, Bool, ◌||◌, ◌==◌, nat_lt, if◌then◌else◌}
-use Rattle.std.specs.Prelude.{List, [], length, map, Option, None, unwrap_or}
+use Rattle.std.specs.Prelude.{List, [], length, map, Option, unwrap_or, None}
 use Rattle.std.specs.Option.{option_map_or}
 use Rattle.std.specs.Str.{is_utf8}
 use Rattle.std.specs.List.{list_all, filter_map}
@@ -14,7 +14,7 @@ use Rattle.sg_paths.specs.Operations.{PlainOp, adds, updates, deletes}
 use Rattle.wire_json.specs.Suggested.{Entry, entries_of, weight_of, contexts_given}
 use Rattle.wire_json.specs.Suggested.{context_given}
 use Rattle.wire_json.specs.Asked.{QueryOptions, query_context_of, rows_asked}
-use Rattle.wire_json.specs.Forms.{Form, change, delete, suggest, form_of}
+use Rattle.wire_json.specs.Forms.{Form, change, delete, suggest, open_view, close_view, form_of}
 use Rattle.wire_json.specs.LineErrors.{Keyed, input_key, prefix_key, lane_of, error_of_form}
 use Rattle.wire_json.specs.declared.forms.Change.{Change}
 use Rattle.wire_json.specs.declared.forms.Change.TheVariants.{Add, Update}
@@ -83,8 +83,10 @@ command_by_form analyzer lanes (change how lane id ds) =
     accepts (lane_or_first lanes lane) (operation_by how (document_of analyzer id ds))
 command_by_form analyzer lanes (delete lane id) =
     accepts (lane_or_first lanes lane) (deletes id)
-command_by_form analyzer lanes (suggest lane prefix o) =
-    suggests (lane_or_first lanes lane) (query_of analyzer prefix o) None
+command_by_form analyzer lanes (suggest lane prefix o view) =
+    suggests (lane_or_first lanes lane) (query_of analyzer prefix o) view
+command_by_form analyzer lanes (open_view lane name) = opens (lane_or_first lanes lane) name
+command_by_form analyzer lanes (close_view lane name) = closes (lane_or_first lanes lane) name
 
 -- the error of a form, else what it asks for
 abbrev pub command_of_form : Analyzer → ℕ → Form → Command

@@ -18,7 +18,7 @@ use Rattle.wire_json.specs.Suggested.{entries_of, has_wrong_weight, has_reserved
 use Rattle.wire_json.specs.Suggested.{has_wrong_contexts}
 use Rattle.wire_json.specs.Asked.{QueryOptions, ask_for_reserved_context, have_wrong_contexts}
 use Rattle.wire_json.specs.Asked.{have_wrong_boost, have_wrong_row_count}
-use Rattle.wire_json.specs.Forms.{Form, change, delete, suggest}
+use Rattle.wire_json.specs.Forms.{Form, change, delete, suggest, open_view, close_view}
 use Rattle.wire_json.specs.declared.keys.KeyFault.{KeyFault}
 use Rattle.wire_json.specs.declared.keys.KeyFault.TheVariants as faults
 use Rattle.wire_replies.specs.declared.error_kind.ErrorKind.{ErrorKind}
@@ -49,7 +49,9 @@ prefix_key analyzer text = keyed_by text (analysis_of analyzer text false)
 abbrev pub keys_of : Analyzer → Form → List Keyed
 keys_of analyzer (change how lane id ds) = map (λ e. input_key analyzer e.text) (entries_of ds)
 keys_of analyzer (delete lane id) = []
-keys_of analyzer (suggest lane prefix o) = prefix_key analyzer prefix ∷ []
+keys_of analyzer (suggest lane prefix o view) = prefix_key analyzer prefix ∷ []
+keys_of analyzer (open_view lane name) = []
+keys_of analyzer (close_view lane name) = []
 
 -- whether a text has no token
 abbrev pub is_refused_as_empty : Keyed → Bool
@@ -98,11 +100,17 @@ used_by_delete lane id = record { lane = lane; id = Some id; suggestions = []; o
 abbrev pub used_by_query : Option Data → QueryOptions → Used
 used_by_query lane o = record { lane = lane; id = None; suggestions = []; options = Some o }
 
+-- what the opening or closing of a view uses
+abbrev pub used_by_view : Option Data → Used
+used_by_view lane = record { lane = lane; id = None; suggestions = []; options = None }
+
 -- what each form uses
 abbrev pub used : Form → Used
 used (change how lane id ds) = used_by_change lane id ds
 used (delete lane id) = used_by_delete lane id
-used (suggest lane prefix o) = used_by_query lane o
+used (suggest lane prefix o view) = used_by_query lane o
+used (open_view lane name) = used_by_view lane
+used (close_view lane name) = used_by_view lane
 
 -- the errors in order, each with whether it applies
 abbrev pub errors_by : ℕ → Used → List Keyed → List (ErrorKind × Bool)

@@ -11,7 +11,8 @@ use Rattle.wire_json.specs.EntryForms.{plain_entry}
 use Rattle.wire_json.specs.declared.forms.GivenChange.{GivenChange}
 use Rattle.wire_json.specs.declared.forms.GivenQuery.{GivenQuery}
 use Rattle.wire_json.specs.declared.forms.Form.{Form}
-use Rattle.wire_json.specs.declared.forms.Form.TheVariants.{Change, Delete, Suggest}
+use Rattle.wire_json.specs.declared.forms.Form.TheVariants.{Change, Delete, Suggest, OpenView}
+use Rattle.wire_json.specs.declared.forms.Form.TheVariants.{CloseView}
 
 -- a change as plain data
 abbrev pub plain_change : GivenChange → plain.Form
@@ -28,13 +29,15 @@ plain_options k contexts =
 abbrev pub plain_query : GivenQuery → plain.Form
 plain_query given =
     plain.suggest (option_map (λ v. view v.now) given.lane) given.prefix.now
-    (plain_options given.k given.contexts.now)
+    (plain_options given.k given.contexts.now) (option_map (λ s. s.now) given.view)
 
 -- a form as plain data
 abbrev pub plain_form : Form → plain.Form
 plain_form (Change given) = plain_change given
 plain_form (Delete lane id) = plain.delete (option_map (λ v. view v.now) lane) id.now
 plain_form (Suggest given) = plain_query given
+plain_form (OpenView lane name) = plain.open_view (option_map (λ v. view v.now) lane) name.now
+plain_form (CloseView lane name) = plain.close_view (option_map (λ v. view v.now) lane) name.now
 
 -- the entries are those of the suggestions, 1 to 16
 pub record EntriesFit (given : GivenChange) : Type 0 where
@@ -46,3 +49,5 @@ abbrev pub HasItsEntries : Form → Type 0
 HasItsEntries (Change given) = EntriesFit given
 HasItsEntries (Delete lane id) = ⊤
 HasItsEntries (Suggest given) = ⊤
+HasItsEntries (OpenView lane name) = ⊤
+HasItsEntries (CloseView lane name) = ⊤

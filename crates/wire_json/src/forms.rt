@@ -1,15 +1,17 @@
 //! The form of a line's value.
 ghost use Rattle.std.specs.Prelude.{◌≡◌, ◌&&◌, nat_le, is_some, IfOk, IfSome, codes, map};
-ghost use Rattle.std.specs.Prelude.{option_map};
+ghost use Rattle.std.specs.Prelude.{option_map, Some};
 ghost use Rattle.sg_paths.specs.declared.limits.TheConstants.{MOST_SUGGESTIONS};
 ghost use Rattle.serde_json.specs.View.{view};
 ghost use Rattle.wire_json.specs.Members.{listed_at};
 ghost use Rattle.wire_json.specs.Suggested.{entries_of};
-ghost use Rattle.wire_json.specs.Forms.{lane_given, change_of, delete_of, suggest_of};
-ghost use Rattle.wire_json.specs.Forms.{form_of, make_a_document};
+ghost use Rattle.wire_json.specs.Forms.{lane_given, change_of, delete_of, suggest_of, suggest_in};
+ghost use Rattle.wire_json.specs.Forms.{is_view_name, view_name, view_asked, open_view_of};
+ghost use Rattle.wire_json.specs.Forms.{close_view_of, form_of, make_a_document};
 ghost use Rattle.wire_json.specs.EntryForms.{plain_entry};
 ghost use Rattle.wire_json.specs.ReadForms.{plain_form, HasItsEntries};
 
+use crate::limits::MOST_VIEW_NAME_BYTES;
 use crate::members::{listed_at, member, text};
 use crate::suggested::{Entry, all_are_suggestions, entries};
 use serde_json::Value;
@@ -43,6 +45,8 @@ pub struct GivenQuery<'v> {
     pub prefix: &'v str,
     pub k: Option<&'v Value>,
     pub contexts: &'v [Value],
+    /// The name of the view that it is in, if it is in one.
+    pub view: Option<&'v str>,
 }
 
 /// What a line asks for, its members as they are given.
@@ -57,6 +61,14 @@ pub enum Form<'v> {
     },
     Suggest {
         given: GivenQuery<'v>,
+    },
+    OpenView {
+        lane: Option<&'v Value>,
+        name: &'v str,
+    },
+    CloseView {
+        lane: Option<&'v Value>,
+        name: &'v str,
     },
 }
 
@@ -132,13 +144,41 @@ fn read_delete(value: &Value) -> Option<Form<'_>>
     }
 }
 
-fn read_suggest(value: &Value) -> Option<Form<'_>>
-    ensures form { option_map plain_form result ≡ suggest_of (view value.now) }
+// A name of a view has 1 to 255 bytes.
+fn is_view_name(name: &str) -> bool
+    ensures { result ≡ is_view_name name.now }
+{
+    1 <= name.len() && name.len() <= MOST_VIEW_NAME_BYTES
+}
+
+fn view_name(value: &Value) -> Option<&str>
+    ensures { option_map (λ s. s.now) result ≡ view_name (view value.now) }
+{
+    match text(value, "view") {
+        Some(name) => { if is_view_name(name) { Some(name) } else { None } }
+        None => None,
+    }
+}
+
+// The view that a query is in, if it is in one; nothing where that has no name.
+fn view_asked(value: &Value) -> Option<Option<&str>>
+    ensures { option_map (option_map (λ s. s.now)) result ≡ view_asked (view value.now) }
+{
+    if member(value, "view").is_none() {
+        return Some(None);
+    }
+    match view_name(value) {
+        Some(name) => Some(Some(name)),
+        None => None,
+    }
+}
+
+// A query in a view, or in none.
+fn read_suggest_in<'v>(value: &'v Value, name: Option<&'v str>) -> Option<Form<'v>>
+    ensures form { option_map plain_form result
+        ≡ suggest_in (view value.now) (Some (option_map (λ s. s.now) name.entry)) }
     ensures entries { IfSome result HasItsEntries }
 {
-    if member(value, "view").is_some() {
-        return None;
-    }
     match text(value, "prefix") {
         Some(prefix) => {
             let given = GivenQuery {
@@ -146,9 +186,46 @@ fn read_suggest(value: &Value) -> Option<Form<'_>>
                 prefix,
                 k: member(value, "k"),
                 contexts: listed_at(value, "contexts"),
+                view: name,
             };
             Some(Form::Suggest { given })
         }
+        None => None,
+    }
+}
+
+fn read_suggest(value: &Value) -> Option<Form<'_>>
+    ensures form { option_map plain_form result ≡ suggest_of (view value.now) }
+    ensures entries { IfSome result HasItsEntries }
+{
+    match view_asked(value) {
+        Some(name) => read_suggest_in(value, name),
+        None => None,
+    }
+}
+
+fn read_open_view(value: &Value) -> Option<Form<'_>>
+    ensures form { option_map plain_form result ≡ open_view_of (view value.now) }
+    ensures entries { IfSome result HasItsEntries }
+{
+    match view_name(value) {
+        Some(name) => Some(Form::OpenView {
+            lane: lane_given(value),
+            name,
+        }),
+        None => None,
+    }
+}
+
+fn read_close_view(value: &Value) -> Option<Form<'_>>
+    ensures form { option_map plain_form result ≡ close_view_of (view value.now) }
+    ensures entries { IfSome result HasItsEntries }
+{
+    match view_name(value) {
+        Some(name) => Some(Form::CloseView {
+            lane: lane_given(value),
+            name,
+        }),
         None => None,
     }
 }
@@ -164,6 +241,8 @@ pub fn read_form(alloc: Global, value: &Value) -> Result<Option<Form<'_>>, Alloc
         Some("update") => read_change(alloc, Change::Update, value),
         Some("delete") => Ok(read_delete(value)),
         Some("suggest") => Ok(read_suggest(value)),
+        Some("open") => Ok(read_open_view(value)),
+        Some("close") => Ok(read_close_view(value)),
         _ => Ok(None),
     }
 }

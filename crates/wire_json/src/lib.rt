@@ -17,6 +17,7 @@ mod suggested;
 pub use commands::Command;
 pub use errors::LineError;
 pub use limits::{
-    DEFAULT_K, DEFAULT_WEIGHT, MOST_LINE_BYTES, MOST_WEIGHT_DIGITS, limits_are_exact,
+    DEFAULT_K, DEFAULT_WEIGHT, MOST_LINE_BYTES, MOST_VIEW_NAME_BYTES, MOST_WEIGHT_DIGITS,
+    limits_are_exact,
 };
 pub use reading::command;

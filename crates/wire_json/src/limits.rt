@@ -9,6 +9,9 @@ pub const MOST_LINE_BYTES: usize = 65_536;
 /// The most digits of a weight that is given as a text.
 pub const MOST_WEIGHT_DIGITS: usize = 20;
 
+/// The most bytes of a view's name, which has one at least.
+pub const MOST_VIEW_NAME_BYTES: usize = 255;
+
 /// The weight of a suggestion that gives none.
 pub const DEFAULT_WEIGHT: Weight = 1;
 

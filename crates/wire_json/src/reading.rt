@@ -10,7 +10,7 @@ ghost use Rattle.wire_json.specs.ReadForms.{plain_change, plain_query, plain_for
 ghost use Rattle.wire_json.specs.ReadForms.{HasItsEntries};
 
 use crate::building::{document, operation, query};
-use crate::checks::{check_change, check_delete, check_suggest, lane_or_first};
+use crate::checks::{check_change, check_delete, check_suggest, check_view, lane_or_first};
 use crate::commands::Command;
 use crate::errors::LineError;
 use crate::forms::{Form, GivenChange, GivenQuery, read_form};
@@ -70,6 +70,56 @@ fn delete(alloc: Global, lanes: u32, lane: Option<&Value>, id: &str) -> Result<C
     })
 }
 
+fn open_view(
+    alloc: Global,
+    lanes: u32,
+    lane: Option<&Value>,
+    name: &str,
+) -> Result<Command, LineError>
+    ensures ok { IfOk result (λ c. (analyzer : Analyzer) → command_of_form analyzer lanes
+        (plain.open_view (option_map (λ v. view v.now) lane.entry) name.now) ≡ plain_command c) }
+    ensures refused { IfErr result (λ e. (analyzer : Analyzer) → Refuses (command_of_form analyzer
+        lanes (plain.open_view (option_map (λ v. view v.now) lane.entry) name.now)) e) }
+    ensures read { IfOk result (λ c. IsRead (plain_command c)) }
+{
+    check_view(lanes, lane)?;
+    let name = Text::of(alloc, name)?;
+    Ok(Command::OpenView {
+        lane: lane_or_first(lanes, lane),
+        name,
+    })
+}
+
+fn close_view(
+    alloc: Global,
+    lanes: u32,
+    lane: Option<&Value>,
+    name: &str,
+) -> Result<Command, LineError>
+    ensures ok { IfOk result (λ c. (analyzer : Analyzer) → command_of_form analyzer lanes
+        (plain.close_view (option_map (λ v. view v.now) lane.entry) name.now) ≡ plain_command c) }
+    ensures refused { IfErr result (λ e. (analyzer : Analyzer) → Refuses (command_of_form analyzer
+        lanes (plain.close_view (option_map (λ v. view v.now) lane.entry) name.now)) e) }
+    ensures read { IfOk result (λ c. IsRead (plain_command c)) }
+{
+    check_view(lanes, lane)?;
+    let name = Text::of(alloc, name)?;
+    Ok(Command::CloseView {
+        lane: lane_or_first(lanes, lane),
+        name,
+    })
+}
+
+// The name of a view as a text of its own.
+fn owned_name(alloc: Global, name: Option<&str>) -> Result<Option<Text>, AllocError>
+    ensures { IfOk result (λ owned. owned ≡ option_map (λ s. s.now) name.entry) }
+{
+    match name {
+        Some(name) => Ok(Some(Text::of(alloc, name)?)),
+        None => Ok(None),
+    }
+}
+
 fn suggest(
     alloc: Global,
     lanes: u32,
@@ -86,10 +136,11 @@ fn suggest(
     match check_suggest(lanes, given.lane, given.k, given.contexts, &key) {
         Ok(()) => {
             let query = query(alloc, key, given.k, given.contexts)?;
+            let view = owned_name(alloc, given.view)?;
             Ok(Command::Suggest {
                 lane: lane_or_first(lanes, given.lane),
                 query,
-                view: None,
+                view,
             })
         }
         Err(error) => Err(error),
@@ -113,6 +164,8 @@ fn command_for(
         Form::Change { given } => change(alloc, lanes, analyzer, &given),
         Form::Delete { lane, id } => delete(alloc, lanes, lane, id),
         Form::Suggest { given } => suggest(alloc, lanes, analyzer, given),
+        Form::OpenView { lane, name } => open_view(alloc, lanes, lane, name),
+        Form::CloseView { lane, name } => close_view(alloc, lanes, lane, name),
     }
 }
 

@@ -4,7 +4,7 @@ use Rattle.std.proofs.Common.{[], ◌∷◌, length, refl, sym, ap, arith}
 use Rattle.std.specs.Prelude.{Contains, slice_index_or}
 use Rattle.index_core.specs.Histories.{Merge}
 use Rattle.index_core.specs.LegalHistories.{IsOpenMerge, merged_generation}
-use Rattle.index_core.specs.WorkedHistories.{AddsAndDeletes, MergesWithALateDelete, PlansByLevels}
+use Rattle.index_core.specs.WorkedHistories.{AddsAndDeletes, MergesWithALateDelete}
 use Rattle.index_core.specs.WorkedHistories.{MergesByNumber, MergesToNone, EventsMeetTheirLines}
 use Rattle.index_core.specs.WorkedHistories.{EventsMissTheirLines, merging, merge}
 use Rattle.index_core.proofs.laws.worked_histories.Goals as goal
@@ -26,6 +26,7 @@ adds_and_deletes = record {
 late_delete : MergesWithALateDelete
 late_delete = record {
   is_open = refl;
+  is_held = refl;
   nothing_else = refl;
   keeps = refl;
   into = refl;
@@ -148,25 +149,6 @@ not_next = record {
   dropped_twice = λ line. none_there line.0 line.1.is_open;
 }
 
-levels : PlansByLevels
-levels = record {
-  level_1 = (refl, refl);
-  level_2 = (refl, refl, refl);
-  level_10 = refl;
-  ten_of_a_level = refl;
-  nine_of_a_level = refl;
-  the_first_ten = refl;
-  by_live_documents = refl;
-  the_lowest_level = refl;
-  most_documents = refl;
-  too_many_documents = refl;
-  most_paths = refl;
-  too_many_paths = refl;
-  half_deleted = refl;
-  first_mostly_deleted = refl;
-  levels_first = refl;
-}
-
 pub returns : goal.returns
 returns c = record {
   adds_and_deletes = adds_and_deletes;
@@ -175,5 +157,4 @@ returns c = record {
   to_none = to_none;
   next = next;
   not_next = not_next;
-  levels = levels;
 }

@@ -1,25 +1,20 @@
--- A view of all operations holds the journal, so what is live in it is live in the journal.
-use Rattle.std.proofs.Common.{◌≡◌, ◌∙◌, sym, ap, arith, length}
-use Rattle.index_core.specs.Records.{accepted}
-use Rattle.sg_shell.proofs.EngineLemmas.{parts_hold, rows-view}
+-- A query that names no view.
+use Rattle.std.proofs.Common.{refl}
+use Rattle.sg_shell.specs.Working.{worker_of}
+use Rattle.sg_shell.proofs.EngineLemmas.{passes_working}
 use Rattle.sg_shell.proofs.engine.suggest.Goals as goal
 
-pub rows_in-rows-requires : goal.rows_in-rows-requires
-rows_in-rows-requires c =
-    let counts = c.accepted-upto.ensures in
-    let counted : accepted c.args.core.now ≡ length c.args.core.now.journal =
-    sym counts.count ∙ counts.journal in
-    let holds = parts_hold c.args.core.now _ _ counted c.in-Ok.ensures.view c.in-Ok.ensures.ok
-    c.in-Ok.ensures.held in
-    omega (arith, ap length holds, counts.journal, counts.most)
+pub returns-in_err-reply-in-None-clause-working : goal.returns-in_err-reply-in-None-clause-working
+returns-in_err-reply-in-None-clause-working c =
+    passes_working c.args.worker.now.core c.query.new.core c.args.worker.now.opened.items
+    c.in_err-reply-in-None.ensures.passes c.requires
 
-pub returns-clause-reply : goal.returns-clause-reply
-returns-clause-reply c =
-    let counts = c.accepted-upto.ensures in
-    let counted : accepted c.args.core.now ≡ length c.args.core.now.journal =
-    sym counts.count ∙ counts.journal in
-    let holds = parts_hold c.args.core.now _ _ counted c.in-Ok.ensures.view c.in-Ok.ensures.ok
-    c.in-Ok.ensures.held in
-    rows-view c.args.line _ c.args.query.now _
-    c.args.core.now.journal _ _ _ counts.count counted holds
-    c.of.ensures.items c.in_ok-rows.ensures
+pub returns-in_ok-reply-in-None-clause-reply : goal.returns-in_ok-reply-in-None-clause-reply
+returns-in_ok-reply-in-None-clause-reply c = λ lane.
+    rw c.in-None.is (c.in_ok-reply-in-None.ensures.reply
+    (worker_of c.args.worker.now.core c.args.worker.now.opened.items) refl)
+
+pub returns-in_ok-reply-in-None-clause-working : goal.returns-in_ok-reply-in-None-clause-working
+returns-in_ok-reply-in-None-clause-working c =
+    passes_working c.args.worker.now.core c.query.new.core c.args.worker.now.opened.items
+    c.in_ok-reply-in-None.ensures.passes c.requires

@@ -4,8 +4,9 @@ use Rattle.sg_paths.specs.Operations.{plain_op}
 use Rattle.index_core.specs.Histories.{Record}
 use Rattle.index_core.specs.Records.{open_views}
 use Rattle.index_core.specs.Calls.{after_accept}
-use Rattle.index_core.specs.Fields.{Stored, record_of}
-use Rattle.index_core.proofs.KeptLemmas.{with_room, accepts, Leaves}
+use Rattle.index_core.specs.Fields.{Stored, IsKept, record_of}
+use Rattle.index_core.proofs.KeptLemmas.{with_room, Leaves, new_generation}
+use Rattle.index_core.proofs.BufferLemmas.{accepts}
 use Rattle.index_core.proofs.ViewLemmas.{open_views-after_accept}
 use Rattle.index_core.proofs.machine.Core.accept.Goals as goal
 
@@ -46,3 +47,11 @@ returns-clause-views c =
     ap (λ (r : Record). open_views r)
     ((left c).record_is ∙ ap (after_accept c.args.caller (plain_op c.args.op)) c.self.view_is)
     ∙ open_views-after_accept c.args.caller (plain_op c.args.op) c.args.self.now
+
+pub accept-requires-clause-new : goal.accept-requires-clause-new
+accept-requires-clause-new c =
+    let kept : IsKept c.make_room.new.self =
+    rw c.make_room.ensures.same
+    (with_room c.self.invariant c.make_room.new.self.closed c.make_room.new.self.places
+    c.make_room.ensures.more) in
+    new_generation kept.plain kept.fields kept.held

@@ -12,23 +12,43 @@ kept places = record {
     not_full = omega arith;
   };
   fields = record {
-    unmerged = refl;
-    generations = refl;
-    of_batches = refl;
     numbered = tt;
     frozen_upto_last = refl;
     frozen_operations = refl;
-    made_by_freezes = λ more. refl;
     drawn_generations = refl;
     few_drawn = omega arith;
     most_operations = omega arith;
-    begun = refl;
-    begun_numbers = tt;
-    few_begun = omega arith;
-    ended_were_begun = All-nil (λ (n : ℕ). n ≤ 0);
-    open_views_count = refl;
-    most_open = omega arith;
+    views = record {
+      count = refl;
+      numbers = tt;
+      few = omega arith;
+      ended_were_begun = All-nil (λ (n : ℕ). n ≤ 0);
+      open_count = refl;
+      most_open = omega arith;
+    };
     room = omega arith;
+  };
+  plain = record {
+    numbered = refl;
+    unmerged = refl;
+    frozen_before = tt;
+    frozen_within = omega arith;
+    drawn_before = tt;
+    built_before = tt;
+    most = omega arith;
+  };
+  pieces = record {
+    generations = refl;
+    rising = tt;
+    each = tt;
+    live = λ f. refl;
+  };
+  held = record {
+    counts = record { each = tt; held = λ g. refl };
+    rise = tt;
+    drawn_before = record { views = tt; merges = tt };
+    drawn_rise = tt;
+    views_rise = tt;
   };
 }
 

@@ -3,8 +3,9 @@ use Rattle.std.proofs.Common.{◌<◌, ◌∙◌, ap, arith, length}
 use Rattle.index_core.specs.Histories.{Record}
 use Rattle.index_core.specs.Records.{open_views}
 use Rattle.index_core.specs.Calls.{after_freeze}
-use Rattle.index_core.specs.Fields.{Stored, record_of}
-use Rattle.index_core.proofs.KeptLemmas.{with_room, freezes, Leaves}
+use Rattle.index_core.specs.Fields.{Stored, IsKept, record_of}
+use Rattle.index_core.proofs.KeptLemmas.{with_room, Leaves, new_generation}
+use Rattle.index_core.proofs.BufferLemmas.{freezes}
 use Rattle.index_core.proofs.ViewLemmas.{open_views-after_freeze}
 use Rattle.index_core.proofs.machine.Core.seal.Goals as goal
 
@@ -43,3 +44,11 @@ returns-clause-views c =
     ap (λ (r : Record). open_views r)
     ((left c).record_is ∙ ap (after_freeze c.args.caller) c.self.view_is)
     ∙ open_views-after_freeze c.args.caller c.args.self.now
+
+pub freeze-requires-clause-new : goal.freeze-requires-clause-new
+freeze-requires-clause-new c =
+    let kept : IsKept c.close.new.self =
+    rw (c.close.ensures.same, c.reserve.ensures.same)
+    (with_room c.self.invariant c.close.new.self.closed c.reserve.new.self.places
+    c.reserve.ensures.more) in
+    new_generation kept.plain kept.fields kept.held

@@ -12,7 +12,7 @@ returns c =
     ap (option_map (λ a. a.value)) (sym c.take.ensures.value ∙ c.in-Some.is) in
     let later : option_map (λ a. a.value) c.take.new.self ≡ None =
     ap (option_map (λ a. a.value)) c.take.ensures.after in
-    frozen_store c.args.caller _ _ _ _ _ _ c.in-Some.batch.value _ _ _ _ _ _ _ _ _ _ _ _ _ _
+    frozen_store c.args.caller _ _ _ _ _ _ c.in-Some.batch.value _ _ _ _ _ _ _ _ _ _ _ _ _ _ _ _ _
     c.behind-batch.inside.from c.behind-batch-2.inside.upto closed later c.self.invariant.0
     c.self.invariant.1
     (ap (λ (b : PlainBatch). b.from) (c.behind-batch.view_is ∙ c.deref.ensures))
@@ -22,4 +22,5 @@ returns c =
     c.push_reserved.ensures.items
     (let long = length-map c.self.inside.batches.items (λ a. a.value) in
     omega (arith, long, c.len-at.ensures)) c.push_reserved-3.ensures.capacity
+    c.bring.ensures.entries
     ∙ ap (freezing c.args.caller) c.self.view_is

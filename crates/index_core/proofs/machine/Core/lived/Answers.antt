@@ -1,0 +1,67 @@
+-- The store stays kept, and its pieces tell what the record does.
+use Rattle.std.proofs.Common.{◌≡◌, ◌≤◌, ◌∙◌, length, sym, ap, subst, arith}
+use Rattle.segment.specs.Pieces.{live_docs_at}
+use Rattle.index_core.specs.Histories.{Record}
+use Rattle.index_core.specs.Records.{frozen, open_views}
+use Rattle.index_core.specs.Generations.{documents_of}
+use Rattle.index_core.specs.CurrentPieces.{is_behind, after_lived}
+use Rattle.index_core.specs.Fields.{Stored, IsKept, record_of}
+use Rattle.index_core.proofs.ViewLemmas.{open_views-after_lived}
+use Rattle.index_core.proofs.KeptLemmas.{with_room, Leaves}
+use Rattle.index_core.proofs.ChangingLemmas.{behind_tells, lives_if}
+use Rattle.index_core.proofs.machine.Core.lived.Goals as goal
+
+pub invariant_of-self : goal.invariant_of-self
+invariant_of-self c =
+    rw c.reserve.ensures.same
+    (with_room c.self.invariant c.self.inside.store.closed c.reserve.new.self.places
+    c.reserve.ensures.more)
+
+roomy : (c : goal.After-live-done) → IsKept c.reserve.new.self
+roomy c =
+    rw c.reserve.ensures.same
+    (with_room c.self.invariant c.self.inside.store.closed c.reserve.new.self.places
+    c.reserve.ensures.more)
+
+-- the same record
+again : (c : goal.After-live-done) → record_of c.reserve.new.self ≡ c.args.self.now
+again c = ap record_of c.reserve.ensures.same ∙ c.self.view_is
+
+left : (c : goal.After-live-done)
+    → Leaves c.live-done.new.self (after_lived c.args.caller c.args.generation c.args.applied
+    (record_of c.reserve.new.self))
+left c =
+    let same = ap (λ (s : Stored). length s.history) c.reserve.ensures.same in
+    let opened = ap (λ (s : Stored). s.open_count) c.reserve.ensures.same in
+    let count = c.opened.ensures in
+    rw c.live-done.ensures.store
+    (lives_if (roomy c) c.args.caller c.args.generation c.args.applied c.args.live.value
+    (subst (λ (r : Record). c.args.applied ≤ frozen r) (sym (again c)) c.requires.within)
+    (λ is. c.requires.live_docs
+    (ap (λ (r : Record). is_behind r c.args.generation c.args.applied) (sym (again c)) ∙ is)
+    ∙ ap (λ (r : Record). live_docs_at r.journal c.args.applied
+    (documents_of r c.args.generation)) (sym (again c)))
+    (omega (arith, same, opened, count, c.in_ok-reserve.ensures.ok)))
+
+pub invariant_of-self-2 : goal.invariant_of-self-2
+invariant_of-self-2 c = (left c).kept
+
+pub returns-clause-answer : goal.returns-clause-answer
+returns-clause-answer c =
+    c.live-done.ensures.answer
+    ∙ behind_tells (record_of c.reserve.new.self) c.reserve.new.self.pieces c.args.generation
+    c.args.applied (roomy c).pieces
+    ∙ ap (λ (r : Record). is_behind r c.args.generation c.args.applied) (again c)
+
+pub returns-clause-ok : goal.returns-clause-ok
+returns-clause-ok c =
+    (left c).record_is ∙ ap (after_lived c.args.caller c.args.generation c.args.applied) (again c)
+
+pub returns-clause-views : goal.returns-clause-views
+returns-clause-views c =
+    ap (λ (r : Record). open_views r)
+    ((left c).record_is ∙ ap (after_lived c.args.caller c.args.generation c.args.applied) (again c))
+    ∙ open_views-after_lived c.args.caller c.args.generation c.args.applied c.args.self.now
+
+pub returns-clause-legal : goal.returns-clause-legal
+returns-clause-legal c = (left c).kept.legal

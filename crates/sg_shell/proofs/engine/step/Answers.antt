@@ -1,0 +1,27 @@
+-- What each kind of line leaves.
+use Rattle.sg_shell.proofs.EngineLemmas.{passes_working}
+use Rattle.sg_shell.specs.Working.{worker_of}
+use Rattle.std.proofs.Common.{refl}
+use Rattle.sg_shell.proofs.engine.step.Goals as goal
+
+pub returns-in_err-accept-in-Accept-clause-working :
+    goal.returns-in_err-accept-in-Accept-clause-working
+returns-in_err-accept-in-Accept-clause-working c =
+    passes_working c.args.worker.now.core c.accept.new.core c.args.worker.now.opened.items
+    c.in_err-accept-in-Accept.ensures.passes c.requires.working
+
+pub returns-in_ok-accept-in-Accept-clause-reply : goal.returns-in_ok-accept-in-Accept-clause-reply
+returns-in_ok-accept-in-Accept-clause-reply c =
+    rw c.in-Accept.is (c.in_ok-accept-in-Accept.ensures.reply
+    (worker_of c.args.worker.now.core c.args.worker.now.opened.items) refl)
+
+pub returns-in_ok-accept-in-Accept-clause-working :
+    goal.returns-in_ok-accept-in-Accept-clause-working
+returns-in_ok-accept-in-Accept-clause-working c =
+    passes_working c.args.worker.now.core c.accept.new.core c.args.worker.now.opened.items
+    c.in_ok-accept-in-Accept.ensures.passes c.requires.working
+
+pub returns-in_ok-suggest-in-Suggest-clause-reply :
+    goal.returns-in_ok-suggest-in-Suggest-clause-reply
+returns-in_ok-suggest-in-Suggest-clause-reply c =
+    rw c.in-Suggest.is (c.in_ok-suggest-in-Suggest.ensures.reply c.in-Suggest.lane)

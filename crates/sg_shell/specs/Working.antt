@@ -1,0 +1,188 @@
+-- What the program knows of its worker from line to line, and what a call of the index leaves. No
+-- public clause cites this module.
+use Rattle.std.specs.Prelude.{◌≡◌, ◌≤◌, ◌<◌, ⊤, ℕ, false, nat_eq, bytes_eq, List, [], ◌∷◌, length}
+use Rattle.std.specs.Prelude.{map, Option, Some, None, Contains}
+use Rattle.std.specs.List.{AllByRecursion, filter_map}
+use Rattle.sg_base.specs.declared.hit.Hit.{Hit}
+use Rattle.sg_paths.specs.Operations.{PlainOp, PlainBatch}
+use Rattle.sg_answers.specs.declared.limits.TheConstants.{MOST_QUEUED}
+use Rattle.seg_live.specs.LiveDocs.{live_without}
+use Rattle.seg_table.specs.Ids.{places_from}
+use Rattle.segment.specs.Pieces.{PlainPiece, piece_documents, live_docs_or_all, live_docs_at}
+use Rattle.segment.specs.Views.{IsBuildablePiece}
+use Rattle.delete_queue.specs.Deletes.{is_dead_in}
+use Rattle.index_core.specs.declared.limits.TheConstants.{MOST_OPEN_VIEWS}
+use Rattle.index_core.specs.Histories.{HistoryEvent, Record, View, ended_view}
+use Rattle.index_core.specs.Histories.{begun_views, open_views, frozen_upto}
+use Rattle.index_core.specs.Records.{accepted, frozen, begun_merges, drawn, next_generation}
+use Rattle.index_core.specs.Generations.{documents_of}
+use Rattle.index_core.specs.Calls.{after_begin, begun_by}
+use Rattle.sg_view.specs.Viewing.{LiveSegment, PlainView, viewed_segments}
+use Rattle.sg_view.specs.Rows.{hit_document, hit_suggestion}
+use Rattle.wire_replies.specs.Replies.{Reply, reply_text}
+use Rattle.wire_replies.specs.Rows.{Row}
+use Rattle.sg_shell.specs.Workers.{Open, Worker, Expected, prints, reports, Step}
+use Rattle.sg_shell.specs.Runs.{segments_seen, Meets}
+use Rattle.sg_shell.specs.Viewed.{IsViewIn}
+use Rattle.sg_shell.specs.declared.engine.TheConstants.{CALLER}
+
+-- ---- records
+
+-- the same views were begun and ended
+pub record Quiet (r s : Record) : Type 0 where
+  pub begun : begun_views s.history ≡ begun_views r.history
+  pub ended : filter_map ended_view s.history ≡ filter_map ended_view r.history
+
+-- a record without merges, whose freezes are of accepted operations and draw one generation after
+-- another
+pub record IsRunning (r : Record) : Type 0 where
+  pub counted : accepted r ≡ length r.journal
+  pub unmerged : begun_merges r ≡ []
+  pub frozen_before : AllByRecursion (λ n. n ≤ length r.journal) (filter_map frozen_upto r.history)
+  pub drawn_before : AllByRecursion (λ g. g < next_generation r) (drawn r)
+
+-- a view of one record is one of the other, and sees the same
+pub record Keeps (r s : Record) (v : View) : Type 0 where
+  pub is_in : IsViewIn s v
+  pub sees : segments_seen s v ≡ segments_seen r v
+
+-- what has become of a record: all its views stay
+pub record Stays (r s : Record) : Type 0 where
+  pub running : IsRunning r → IsRunning s
+  pub views : IsRunning r → (v : View) → IsViewIn r v → Keeps r s v
+
+-- ---- open views
+
+-- the open views of a history are these, and numbers count up
+pub record Views (h : List HistoryEvent) (kept : List View) : Type 0 where
+  pub are_open : open_views h ≡ kept
+  pub ended : AllByRecursion (λ n. n ≤ length (begun_views h)) (filter_map ended_view h)
+  pub below : AllByRecursion (λ v. v.view ≤ length (begun_views h)) kept
+
+-- the views of named ones
+abbrev pub views_of : List Open → List View
+views_of kept = map (λ o. o.view) kept
+
+-- another name and another number
+abbrev pub IsApart : Open → Open → Type 0
+IsApart o p = (bytes_eq p.name o.name ≡ false) × (nat_eq p.view.view o.view.view ≡ false)
+
+-- each of the others
+abbrev pub AreApart : List Open → Type 0
+AreApart [] = Unit {0}
+AreApart (o ∷ os) = AllByRecursion (IsApart o) os × AreApart os
+
+-- the named views are the open ones, with names and numbers of their own, and not too many
+pub record Holds (w : Worker) : Type 0 where
+  pub views : Views w.seen.history (views_of w.kept)
+  pub apart : AreApart w.kept
+  pub few : length w.kept ≤ MOST_OPEN_VIEWS
+
+-- ---- the program's worker
+
+-- a built view under a name
+pub record NamedBuilt : Type 0 where
+  pub name : List ℕ
+  pub view : PlainView
+
+-- the view of a record that a built one is of
+abbrev pub view_in : PlainView → View
+view_in v = record {
+  caller = CALLER;
+  view = v.number;
+  upto = v.upto;
+  generations = v.generations;
+}
+
+-- a named view as the worker of the definitions has it
+abbrev pub open_of : NamedBuilt → Open
+open_of o = record { name = o.name; view = view_in o.view }
+
+-- the worker of the definitions
+abbrev pub worker_of : Record → List NamedBuilt → Worker
+worker_of r opened = record { seen = r; kept = map open_of opened }
+
+-- a built view sees what the record says
+pub record IsShown (r : Record) (v : PlainView) : Type 0 where
+  pub is_in : IsViewIn r (view_in v)
+  pub sees : viewed_segments v ≡ segments_seen r (view_in v)
+
+-- the named views are the open ones, and each sees what the record says
+pub record IsWorking (r : Record) (opened : List NamedBuilt) : Type 0 where
+  pub holds : Holds (worker_of r opened)
+  pub running : IsRunning r
+  pub shown : AllByRecursion (λ o. IsShown r o.view) opened
+
+-- ---- what calls leave
+
+-- the open views stay
+abbrev pub KeepsOpen : Record → Record → Type 0
+KeepsOpen r s = (kept : List View) → Views r.history kept → Views s.history kept
+
+-- all views stay, and the same ones are open
+pub record Passes (r s : Record) : Type 0 where
+  pub stays : Stays r s
+  pub open_stay : KeepsOpen r s
+
+-- segments and live docs came, and nothing else
+pub record Refreshes (r s : Record) : Type 0 where
+  pub passes : Passes r s
+  pub documents : IsRunning r → (g : ℕ) → documents_of s g ≡ documents_of r g
+  pub frozen_stay : frozen s ≡ frozen r
+  pub journal : s.journal ≡ r.journal
+
+-- with the deletes of batches up to upto, a piece's live docs are those after so many operations
+abbrev pub IsDue : List PlainOp → ℕ → List PlainBatch → PlainPiece → Type 0
+IsDue journal upto batches p =
+    live_without 0 (places_from 0 (is_dead_in p.applied upto batches) (piece_documents p))
+    (live_docs_or_all (piece_documents p) p.live_docs)
+    ≡ live_docs_at journal upto (piece_documents p)
+
+-- what a flush needs of a piece
+pub record IsFlushable (r : Record) (upto : ℕ) (batches : List PlainBatch) (p : PlainPiece)
+    : Type 0 where
+  pub buildable : IsBuildablePiece p
+  pub documents : piece_documents p ≡ documents_of r p.generation
+  pub due : IsDue r.journal upto batches p
+
+-- ---- replies
+
+-- a report is over a view of the record, for at most as many rows as a queue holds
+abbrev pub IsViewed : Expected → Type 0
+IsViewed (prints p) = ⊤
+IsViewed (reports r v query) = IsViewIn r v × (query.k ≤ MOST_QUEUED)
+
+-- the reply is one that the step expects, and the worker is that after it
+pub record Answers (line : ℕ) (s : Step) (reply : Reply) (after : Worker) : Type 0 where
+  pub expected : Expected
+  pub expects : s.expected ≡ Some expected
+  pub meets : Meets line reply expected
+  pub viewed : IsViewed expected
+  pub after_is : s.after ≡ after
+
+-- the same of a line that may print nothing
+abbrev pub MayAnswer : ℕ → Step → Option Reply → Worker → Type 0
+MayAnswer line s None after = (s.expected ≡ None) × (s.after ≡ after)
+MayAnswer line s (Some reply) after = Answers line s reply after
+
+-- a view was begun, or too many are open
+abbrev pub Begins : Record → Record → Option PlainView → Type 0
+Begins old new None = (MOST_OPEN_VIEWS ≤ length (open_views old.history)) × (new ≡ old)
+Begins old new (Some v) =
+    (length (open_views old.history) < MOST_OPEN_VIEWS) × (new ≡ after_begin CALLER old)
+    × (view_in v ≡ begun_by CALLER old) × IsShown new v
+    × Contains (open_views new.history) (view_in v)
+
+-- a hit of a view as it is printed
+abbrev pub hit_row : List LiveSegment → Hit → Row
+hit_row segments h = record {
+  id = (hit_document segments h).id;
+  score = h.score;
+  seq = h.seq;
+  text = (hit_suggestion segments h).text;
+}
+
+-- the bytes of a reply, if there is one
+abbrev pub printed : Option Reply → List ℕ
+printed None = []
+printed (Some reply) = reply_text reply

@@ -1,0 +1,49 @@
+//! Views that are open under a name.
+ghost use Rattle.std.specs.Prelude.{◌≡◌, bytes_eq, Contains};
+ghost use Rattle.std.specs.List.{position_from};
+ghost use Rattle.index_core.specs.Records.{open_views};
+ghost use Rattle.index_core.specs.Calls.{after_end};
+ghost use Rattle.sg_shell.specs.Working.{view_in};
+
+use crate::engine::CALLER;
+use crate::viewing::end;
+use index_core::Core;
+use sg_base::Text;
+use sg_view::View;
+use std::marker::Model;
+
+/// A view under its name. It can't be dropped.
+pub(crate) struct Opened {
+    pub name: Text,
+    pub view: View,
+}
+
+impl Model for Opened {
+    ghost use Rattle.sg_shell.specs.Working.{NamedBuilt};
+
+    ghost Value = { NamedBuilt };
+
+    ghost view = { λ o. record { name = o.name; view = o.view } };
+}
+
+fn place_of(opened: &[Opened], name: &str) -> Option<usize>
+    ensures { result ≡ position_from (λ o. bytes_eq o.name name.now) 0 opened.now }
+{
+    opened.iter().position(|o| o.name.as_str() == name)
+}
+
+/// The place of the view of that name, if one is open.
+pub(crate) fn position_of(opened: &Vec<Opened>, name: &Text) -> Option<usize>
+    ensures { result ≡ position_from (λ o. bytes_eq o.name name.now) 0 opened.now.items }
+{
+    place_of(opened.as_slice(), name.as_str())
+}
+
+/// Ends the view. Takes no memory.
+pub(crate) fn end_opened(core: &mut Core, opened: Opened)
+    requires { Contains (open_views core.old) (view_in opened.view) }
+    ensures { core.new ≡ after_end CALLER opened.view.number core.old }
+{
+    let Opened { name: _, view } = opened;
+    end(core, view);
+}
