@@ -1,7 +1,5 @@
-ghost use Rattle.std.specs.List.Sorted.{IsNonDecreasingBy};
-
 use crate::making::{document_of, query_of};
-use sg_answers::{NumberedRef, document_with, first_rows};
+use sg_answers::{NumberedRef, first_rows};
 use sg_base::Rank;
 use sg_paths::Numbered;
 use std::alloc::Global;
@@ -77,8 +75,7 @@ fn told(alloc: Global, rows: &[Rank]) -> Result<String, Fail> {
             told.push_str(", ")?;
         }
         let key = str::from_utf8(row.key.as_slice())?;
-        let line = format!(in alloc; "{} {key} {}/{}", row.score, row.seq, row.place)?;
-        told.push_str(line.as_str())?;
+        write!(told, "{} {key} {}/{}", row.score, row.seq, row.place)?;
     }
     Ok(told)
 }
@@ -100,22 +97,5 @@ fn documents_answer_by_their_best_paths(rt: HostRuntime) -> Result<(), Fail> {
         let told = answered(rt.alloc(), query, documents)?;
         assert_eq!(rt; told.as_str(), wanted.trim(), "{name}");
     }
-    Ok(())
-}
-
-fn sort_by_number(documents: &mut Vec<NumberedRef<'_>>)
-    ensures { IsNonDecreasingBy (λ d. d.seq) documents.new.items }
-{
-    documents.sort_unstable_by_key(|document| document.seq);
-}
-
-#[test]
-fn a_document_is_found_by_its_number(rt: HostRuntime) -> Result<(), Fail> {
-    let documents = documents_of(rt.alloc(), "one:1 ; two:2")?;
-    let mut lent = lent(rt.alloc(), documents.as_slice())?;
-    sort_by_number(&mut lent);
-    let found = document_with(lent.as_slice(), 2).ok_or("no document")?;
-    assert_eq!(rt; found.seq, 2);
-    assert!(rt; document_with(lent.as_slice(), 3).is_none(), "no number 3");
     Ok(())
 }

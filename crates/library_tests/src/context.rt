@@ -1,5 +1,6 @@
 use crate::making::asked_of;
 use sg_context::boost_of;
+use std::alloc::Global;
 use std::test::Fail;
 
 // A row each: what it shows, the query contexts, a context, and its boost.
@@ -18,6 +19,15 @@ the empty context|=5|köln|-
 the empty context in itself|=5||5
 the greatest boost of all|x=2147483647|x|2147483647";
 
+fn shown(alloc: Global, boost: Option<u32>) -> Result<String, Fail> {
+    let mut told = String::new(alloc);
+    match boost {
+        Some(boost) => write!(told, "{boost}")?,
+        None => told.push_str("-")?,
+    }
+    Ok(told)
+}
+
 #[test]
 fn the_greatest_boost_that_matches_counts(rt: HostRuntime) -> Result<(), Fail> {
     for row in BOOSTS.lines() {
@@ -25,10 +35,7 @@ fn the_greatest_boost_that_matches_counts(rt: HostRuntime) -> Result<(), Fail> {
         let (asked, rest) = rest.split_once('|').ok_or("no context")?;
         let (context, wanted) = rest.split_once('|').ok_or("no boost")?;
         let asked = asked_of(rt.alloc(), asked)?;
-        let told = match boost_of(asked.as_slice(), context.as_bytes()) {
-            Some(boost) => format!(in rt.alloc(); "{boost}")?,
-            None => String::from_str(rt.alloc(), "-")?,
-        };
+        let told = shown(rt.alloc(), boost_of(asked.as_slice(), context.as_bytes()))?;
         assert_eq!(rt; told.as_str(), wanted, "{name}");
     }
     Ok(())

@@ -1,76 +1,28 @@
-use sg_edge::{Failed, MemorySink, MemorySource, PutError, Sink, Source, StdSink, StdSource};
+use sg_edge::{PutError, Sink, Source, StdSink, StdSource};
 use std::alloc::Global;
 use std::io;
 use std::io::{ErrorKind, Read, Write};
-use std::process::Abort;
 use std::test::Fail;
 
-const FAILED: Result<usize, Failed> = Err(Failed);
-
-// Takes into pieces of the sizes listed, compares each answer, and gives all that was moved.
-fn taken<S: Source>(
-    rt: &impl Abort,
-    alloc: Global,
-    name: &str,
-    source: &mut S,
-    takes: &[(usize, Result<usize, Failed>)],
-) -> Result<Vec<u8>, Fail> {
-    let mut moved = Vec::new(alloc);
-    for (at, (room, wanted)) in takes.iter().enumerate() {
-        let mut into = vec![in alloc; 0u8; *room]?;
-        let answer = source.take(&mut into);
-        assert_eq!(rt; answer, *wanted, "{name}, take {at}");
-        if let Ok(count) = answer {
-            moved.extend_from_slice(&into[..count])?;
-        }
-    }
-    Ok(moved)
-}
-
-#[test]
-fn a_source_in_memory_gives_its_bytes_in_order(rt: HostRuntime) -> Result<(), Fail> {
-    let alloc = rt.alloc();
-    let rows: [(&str, &[u8], bool, &[u64], &[(usize, Result<usize, Failed>)]); 3] = [
-        (
-            "small pieces, an empty one and the end",
-            b"ab\ncd\n",
-            false,
-            &[],
-            &[(2, Ok(2)), (0, Ok(0)), (64, Ok(4)), (3, Ok(0))],
-        ),
-        (
-            "by line",
-            b"ab\n\ncd",
-            true,
-            &[],
-            &[(3, Ok(3)), (64, Ok(1)), (1, Ok(1)), (64, Ok(1))],
-        ),
-        (
-            "listed calls fail, one of them for an empty piece",
-            b"abc",
-            true,
-            &[4, 2, 0],
-            &[(1, Ok(1)), (1, FAILED), (1, Ok(1)), (0, FAILED), (1, Ok(1))],
-        ),
-    ];
-    for (name, bytes, by_line, fails, takes) in rows {
-        let mut source = MemorySource::new(bytes.to_vec(alloc)?, by_line, fails.to_vec(alloc)?);
-        let mut moved = taken(&rt, alloc, name, &mut source, takes)?;
-        moved.extend_from_slice(source.left())?;
-        assert_eq!(rt; moved.as_slice(), bytes, "{name}, moved and left");
-    }
+// Takes once, and tells the bytes between brackets, or `-` where the call failed.
+fn push_taken<S: Source>(told: &mut String, source: &mut S, room: usize) -> Result<(), Fail> {
+    let mut into = vec![in *told.allocator(); 0u8; room]?;
+    let Ok(count) = source.take(&mut into) else {
+        told.push_str("-")?;
+        return Ok(());
+    };
+    let taken = str::from_utf8(&into[..count])?;
+    write!(told, "[{taken}]")?;
     Ok(())
 }
 
-#[test]
-fn a_sink_in_memory_keeps_its_bytes_in_order(rt: HostRuntime) -> Result<(), Fail> {
-    let alloc = rt.alloc();
-    let mut sink = MemorySink::new(vec![in alloc; 2]?);
-    assert_eq!(rt; sink.put(b"ab"), Ok(2));
-    assert_eq!(rt; sink.put(b"c"), Err(PutError::Failed));
-    assert_eq!(rt; sink.put(b"def"), Ok(3));
-    assert_eq!(rt; sink.given(), b"abdef".as_slice());
-    Ok(())
+// Takes into pieces of these sizes, with blanks between them.
+fn taken<S: Source>(alloc: Global, source: &mut S, rooms: &str) -> Result<String, Fail> {
+    let mut told = String::new(alloc);
+    for room in rooms.split_whitespace() {
+        push_taken(&mut told, source, room.parse::<usize>()?)?;
+    }
+    Ok(told)
 }
 
 // Fails at its first read, then gives its bytes, one a read.
@@ -97,20 +49,26 @@ impl Read for FailsFirst {
 
 #[test]
 fn a_source_over_a_reader_hands_on_its_answers(rt: HostRuntime) -> Result<(), Fail> {
-    let alloc = rt.alloc();
-    let text: &[u8] = b"ab\ncd";
-    let mut source = StdSource::new(text);
-    let takes = [(0, Ok(0)), (4, Ok(4)), (4, Ok(1)), (4, Ok(0))];
-    let moved = taken(&rt, alloc, "bytes", &mut source, &takes)?;
-    assert_eq!(rt; moved.as_slice(), text);
     let mut source = StdSource::new(FailsFirst {
         failed: false,
         bytes: b"ab",
     });
-    let takes = [(4, FAILED), (4, Ok(1)), (4, Ok(1)), (4, Ok(0)), (4, Ok(0))];
-    let moved = taken(&rt, alloc, "a reader that fails", &mut source, &takes)?;
-    assert_eq!(rt; moved.as_slice(), &b"ab"[..]);
+    let told = taken(rt.alloc(), &mut source, "4 4 4 4 4")?;
+    assert_eq!(rt; told.as_str(), "-[a][b][][]");
     Ok(())
+}
+
+// Puts pieces with blanks between them, and tells how many bytes of each were put, or `-`.
+fn put<S: Sink>(alloc: Global, sink: &mut S, pieces: &str) -> Result<String, Fail> {
+    let mut told = String::new(alloc);
+    for piece in pieces.split(' ') {
+        match sink.put(piece.as_bytes()) {
+            Ok(count) => write!(told, "{count} ")?,
+            Err(PutError::Failed) => told.push_str("- ")?,
+            Err(PutError::Memory) => return Err("no memory".into()),
+        }
+    }
+    Ok(told)
 }
 
 // Fails at its first write, takes 0 bytes at its second, and then one at each.
@@ -136,21 +94,12 @@ impl Write for TakesLate {
 
 #[test]
 fn a_sink_over_a_writer_hands_on_its_answers(rt: HostRuntime) -> Result<(), Fail> {
-    let mut sink = StdSink::new(Vec::<u8>::new(rt.alloc()));
-    assert_eq!(rt; sink.put(b"abc"), Ok(3));
-    assert_eq!(rt; sink.put(b""), Ok(0));
     let mut sink = StdSink::new(TakesLate { writes: 0 });
+    let told = put(rt.alloc(), &mut sink, "abc abc abc ")?;
     assert_eq!(rt;
-        sink.put(b"abc"),
-        Err(PutError::Failed),
-        "a write that fails"
+        told.as_str(),
+        "- - 1 0 ",
+        "it fails, takes none, takes one, and takes an empty piece"
     );
-    assert_eq!(rt;
-        sink.put(b"abc"),
-        Err(PutError::Failed),
-        "a write of 0 bytes"
-    );
-    assert_eq!(rt; sink.put(b"abc"), Ok(1), "a write of one byte");
-    assert_eq!(rt; sink.put(b""), Ok(0), "an empty piece");
     Ok(())
 }

@@ -7,8 +7,6 @@ mod analysis;
 #[cfg(test)]
 mod answers;
 #[cfg(test)]
-mod base;
-#[cfg(test)]
 mod context;
 #[cfg(test)]
 mod edge;

@@ -17,15 +17,23 @@ an update leaves its own|+x +x =x|3
 an update of a new id adds|=x|1
 one after the other|+a +b =a -b +b -c =c -a +a|5 7 9";
 
+fn op_of(alloc: Global, word: &str) -> Result<Op, Fail> {
+    let (kind, id) = word.split_at_checked(1).ok_or("no kind")?;
+    if kind == "-" {
+        return Ok(Op::Delete(Text::of(alloc, id)?));
+    }
+    let document = document_of(alloc, id, "bern:1")?;
+    Ok(if kind == "+" {
+        Op::Add(document)
+    } else {
+        Op::Update(document)
+    })
+}
+
 fn journal_of(alloc: Global, spelled: &str) -> Result<List<Op>, Fail> {
     let mut journal = Vec::new(alloc);
     for word in spelled.split_whitespace() {
-        let (kind, id) = word.split_at_checked(1).ok_or("no kind")?;
-        journal.push(match kind {
-            "+" => Op::Add(document_of(alloc, id, "bern:1")?),
-            "=" => Op::Update(document_of(alloc, id, "bern:1")?),
-            _ => Op::Delete(Text::of(alloc, id)?),
-        })?;
+        journal.push(op_of(alloc, word)?)?;
     }
     Ok(List::of(journal))
 }
@@ -38,8 +46,7 @@ fn live_numbers(alloc: Global, spelled: &str) -> Result<String, Fail> {
         if !told.is_empty() {
             told.push_str(" ")?;
         }
-        let number = format!(in alloc; "{}", numbered.seq)?;
-        told.push_str(number.as_str())?;
+        write!(told, "{}", numbered.seq)?;
     }
     Ok(told)
 }

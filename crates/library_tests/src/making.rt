@@ -10,10 +10,12 @@ pub fn key_of(alloc: Global, spelled: &str) -> Result<Key, Fail> {
     Ok(Key::of(Bytes::of(alloc, spelled.as_bytes())?)?)
 }
 
-fn contexts_of(alloc: Global, spelled: &str) -> Result<Vec<Context>, Fail> {
+fn contexts_of(alloc: Global, spelled: Option<&str>) -> Result<Vec<Context>, Fail> {
     let mut contexts = Vec::new(alloc);
-    for name in spelled.split(',') {
-        contexts.push(Context::new(alloc, name)?)?;
+    if let Some(spelled) = spelled {
+        for name in spelled.split(',') {
+            contexts.push(Context::new(alloc, name)?)?;
+        }
     }
     Ok(contexts)
 }
@@ -21,12 +23,10 @@ fn contexts_of(alloc: Global, spelled: &str) -> Result<Vec<Context>, Fail> {
 /// A suggestion: its key, `:`, its weight and, behind `@`, its contexts.
 pub fn suggestion_of(alloc: Global, spelled: &str) -> Result<Suggestion, Fail> {
     let (key, rest) = spelled.split_once(':').ok_or("no weight")?;
-    let (weight, contexts) = match rest.split_once('@') {
-        Some((weight, contexts)) => (weight, contexts_of(alloc, contexts)?),
-        None => (rest, Vec::new(alloc)),
-    };
+    let mut parts = rest.split('@');
+    let weight = parts.next().ok_or("no weight")?.parse::<u32>()?;
+    let contexts = contexts_of(alloc, parts.next())?;
     let text = Text::of(alloc, key)?;
-    let weight = weight.parse::<u32>()?;
     Ok(Suggestion::new(text, key_of(alloc, key)?, weight, contexts)?)
 }
 
@@ -42,10 +42,9 @@ pub fn document_of(alloc: Global, id: &str, spelled: &str) -> Result<Document, F
 fn query_context_of(alloc: Global, spelled: &str) -> Result<QueryContext, Fail> {
     let (name, boost) = spelled.split_once('=').ok_or("no boost")?;
     let boost = boost.parse::<u32>()?;
-    Ok(match name.strip_suffix('*') {
-        Some(beginning) => QueryContext::new(Context::new(alloc, beginning)?, boost, true)?,
-        None => QueryContext::new(Context::new(alloc, name)?, boost, false)?,
-    })
+    let beginning = name.strip_suffix('*');
+    let context = Context::new(alloc, beginning.unwrap_or(name))?;
+    Ok(QueryContext::new(context, boost, beginning.is_some())?)
 }
 
 /// Query contexts with blanks between them: `x=2` has the boost 2, and `x*=2` matches what begins
@@ -61,10 +60,7 @@ pub fn asked_of(alloc: Global, spelled: &str) -> Result<Vec<QueryContext>, Fail>
 /// A query: its prefix, where `.` is the empty one, its number of rows and its contexts.
 pub fn query_of(alloc: Global, spelled: &str) -> Result<Query, Fail> {
     let (prefix, rest) = spelled.split_once(' ').ok_or("no number of rows")?;
-    let (k, contexts) = match rest.split_once(' ') {
-        Some((k, contexts)) => (k, contexts),
-        None => (rest, ""),
-    };
+    let (k, contexts) = rest.split_once(' ').unwrap_or((rest, ""));
     let prefix = if prefix == "." { "" } else { prefix };
     let asked = asked_of(alloc, contexts)?;
     Ok(Query::new(key_of(alloc, prefix)?, asked, k.parse::<u32>()?)?)

@@ -36,11 +36,14 @@ fn print(out: &mut String, error: &impl Display, alloc: Global) -> Result<(), Fa
     Ok(())
 }
 
-fn contexts_and_keys(alloc: Global, out: &mut String) -> Result<(), Fail> {
+fn of_contexts(alloc: Global, out: &mut String) -> Result<(), Fail> {
     let (byte, at) = (0x1d, 2);
     print(out, &ContextError::Reserved { byte, at }, alloc)?;
     print(out, &ContextError::TooLong { bytes: 64 }, alloc)?;
-    print(out, &ContextError::Memory, alloc)?;
+    print(out, &ContextError::Memory, alloc)
+}
+
+fn of_keys(alloc: Global, out: &mut String) -> Result<(), Fail> {
     let (byte, at) = (0x1f, 50);
     print(out, &KeyError::Reserved { byte, at }, alloc)?;
     print(out, &KeyError::Empty, alloc)?;
@@ -48,29 +51,41 @@ fn contexts_and_keys(alloc: Global, out: &mut String) -> Result<(), Fail> {
     print(out, &KeyError::Memory, alloc)
 }
 
-fn queries_and_documents(alloc: Global, out: &mut String) -> Result<(), Fail> {
+fn of_queries(alloc: Global, out: &mut String) -> Result<(), Fail> {
     print(out, &BoostError { boost: 0 }, alloc)?;
     print(out, &QueryError::Contexts { count: 65 }, alloc)?;
-    print(out, &QueryError::K { k: 1_001 }, alloc)?;
+    print(out, &QueryError::K { k: 1_001 }, alloc)
+}
+
+fn of_suggestions(alloc: Global, out: &mut String) -> Result<(), Fail> {
     print(out, &SuggestionError::TextLong { bytes: 1_025 }, alloc)?;
     print(out, &SuggestionError::EmptyKey, alloc)?;
     let weight = 2_147_483_648;
     print(out, &SuggestionError::Weight { weight }, alloc)?;
-    print(out, &SuggestionError::Contexts { count: 17 }, alloc)?;
+    print(out, &SuggestionError::Contexts { count: 17 }, alloc)
+}
+
+fn of_documents(alloc: Global, out: &mut String) -> Result<(), Fail> {
     print(out, &DocumentError::Id { bytes: 256 }, alloc)?;
     print(out, &DocumentError::NoSuggestion, alloc)?;
     print(out, &DocumentError::TooMany { count: 17 }, alloc)
 }
 
+fn of_ends(alloc: Global, out: &mut String) -> Result<(), Fail> {
+    print(out, &Failed, alloc)?;
+    print(out, &PutError::Failed, alloc)?;
+    print(out, &PutError::Memory, alloc)
+}
+
 #[test]
 fn errors_have_a_line_each(rt: HostRuntime) -> Result<(), Fail> {
-    let alloc = rt.alloc();
-    let mut out = String::new(alloc);
-    contexts_and_keys(alloc, &mut out)?;
-    queries_and_documents(alloc, &mut out)?;
-    print(&mut out, &Failed, alloc)?;
-    print(&mut out, &PutError::Failed, alloc)?;
-    print(&mut out, &PutError::Memory, alloc)?;
+    let mut out = String::new(rt.alloc());
+    of_contexts(rt.alloc(), &mut out)?;
+    of_keys(rt.alloc(), &mut out)?;
+    of_queries(rt.alloc(), &mut out)?;
+    of_suggestions(rt.alloc(), &mut out)?;
+    of_documents(rt.alloc(), &mut out)?;
+    of_ends(rt.alloc(), &mut out)?;
     assert_eq!(rt; out.as_str(), LINES);
     Ok(())
 }

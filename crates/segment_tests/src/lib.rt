@@ -3,8 +3,6 @@
 #![tactic(auto)]
 
 #[cfg(test)]
-mod live_docs;
-#[cfg(test)]
 mod making;
 #[cfg(test)]
 mod segment_bytes;

@@ -5,10 +5,12 @@ use sg_paths::{Document, Numbered, Suggestion};
 use std::alloc::{AllocError, Global};
 use std::test::Fail;
 
-fn contexts_of(alloc: Global, spelled: &str) -> Result<Vec<Context>, Fail> {
+fn contexts_of(alloc: Global, spelled: Option<&str>) -> Result<Vec<Context>, Fail> {
     let mut contexts = Vec::new(alloc);
-    for name in spelled.split(',') {
-        contexts.push(Context::new(alloc, name)?)?;
+    if let Some(spelled) = spelled {
+        for name in spelled.split(',') {
+            contexts.push(Context::new(alloc, name)?)?;
+        }
     }
     Ok(contexts)
 }
@@ -16,13 +18,12 @@ fn contexts_of(alloc: Global, spelled: &str) -> Result<Vec<Context>, Fail> {
 /// A suggestion: its key, `:`, its weight and, behind `@`, its contexts.
 fn suggestion_of(alloc: Global, spelled: &str) -> Result<Suggestion, Fail> {
     let (key, rest) = spelled.split_once(':').ok_or("no weight")?;
-    let (weight, contexts) = match rest.split_once('@') {
-        Some((weight, contexts)) => (weight, contexts_of(alloc, contexts)?),
-        None => (rest, Vec::new(alloc)),
-    };
+    let mut parts = rest.split('@');
+    let weight = parts.next().ok_or("no weight")?.parse::<u32>()?;
+    let contexts = contexts_of(alloc, parts.next())?;
     let text = Text::of(alloc, key)?;
     let key = Key::of(Bytes::of(alloc, key.as_bytes())?)?;
-    Ok(Suggestion::new(text, key, weight.parse::<u32>()?, contexts)?)
+    Ok(Suggestion::new(text, key, weight, contexts)?)
 }
 
 /// A document: its id, and its suggestions with blanks between them.

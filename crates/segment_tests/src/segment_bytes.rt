@@ -113,18 +113,14 @@ const CUTS: &str = "\
 ";
 
 fn answer(alloc: Global, bytes: &[u8], offset: usize) -> Result<String, Fail> {
-    let answer = match Segment::check(alloc, Bytes::of(alloc, bytes)?) {
-        Ok(_) => format!(in alloc; "ok")?,
-        Err(CodeError::Bad { rule, at }) => {
-            if at == offset as u64 {
-                format!(in alloc; "{rule}@=")?
-            } else {
-                format!(in alloc; "{rule}@{at}")?
-            }
-        }
+    let mut told = String::new(alloc);
+    match Segment::check(alloc, Bytes::of(alloc, bytes)?) {
+        Ok(_) => told.push_str("ok")?,
+        Err(CodeError::Bad { rule, at }) if at == offset as u64 => write!(told, "{rule}@=")?,
+        Err(CodeError::Bad { rule, at }) => write!(told, "{rule}@{at}")?,
         Err(CodeError::Memory) => return Err("no memory".into()),
-    };
-    Ok(answer)
+    }
+    Ok(told)
 }
 
 fn damaged(alloc: Global, bytes: &[u8], offset: usize, value: u8) -> Result<String, Fail>
@@ -138,10 +134,21 @@ fn damaged(alloc: Global, bytes: &[u8], offset: usize, value: u8) -> Result<Stri
 fn damages_at(alloc: Global, bytes: &[u8], offset: usize) -> Result<String, Fail>
     requires { offset < length bytes.now }
 {
-    let least = damaged(alloc, bytes, offset, 0)?;
-    let greatest = damaged(alloc, bytes, offset, 255)?;
-    let next = damaged(alloc, bytes, offset, bytes[offset].wrapping_add(1))?;
-    Ok(format!(in alloc; "{least} {greatest} {next}")?)
+    let mut told = damaged(alloc, bytes, offset, 0)?;
+    for value in [255, bytes[offset].wrapping_add(1)] {
+        let answer = damaged(alloc, bytes, offset, value)?;
+        write!(told, " {answer}")?;
+    }
+    Ok(told)
+}
+
+// A line where the answer is another than the last one.
+fn push_change(told: &mut String, last: &mut String, at: usize, row: String) -> Result<(), Fail> {
+    if row.as_str() != last.as_str() {
+        write!(told, "{at}: {row}\n")?;
+        *last = row;
+    }
+    Ok(())
 }
 
 #[test]
@@ -151,10 +158,7 @@ fn each_damage_names_its_rule(rt: HostRuntime) -> Result<(), Fail> {
     let mut last = String::new(rt.alloc());
     for offset in 0..bytes.len() {
         let row = damages_at(rt.alloc(), bytes.as_slice(), offset)?;
-        if row.as_str() != last.as_str() {
-            told.push_str(format!(in rt.alloc(); "{offset}: {row}\n")?.as_str())?;
-            last = row;
-        }
+        push_change(&mut told, &mut last, offset, row)?;
     }
     assert_eq!(rt; told.as_str(), DAMAGES);
     Ok(())
@@ -167,41 +171,36 @@ fn each_cut_names_its_rule(rt: HostRuntime) -> Result<(), Fail> {
     let mut last = String::new(rt.alloc());
     for count in 0..bytes.len() {
         let row = answer(rt.alloc(), &bytes[..count], count)?;
-        if row.as_str() != last.as_str() {
-            told.push_str(format!(in rt.alloc(); "{count}: {row}\n")?.as_str())?;
-            last = row;
-        }
+        push_change(&mut told, &mut last, count, row)?;
     }
     assert_eq!(rt; told.as_str(), CUTS);
     Ok(())
 }
 
-fn segment_of_one(alloc: Global, numbered: Numbered) -> Result<Segment, Fail> {
-    let mut docs = Vec::new(alloc);
-    docs.push(numbered)?;
+fn example_suggestion(alloc: Global) -> Result<Suggestion, Fail> {
+    let text = Text::of(alloc, "B")?;
+    let key = Key::of(Bytes::of(alloc, b"b")?)?;
+    Ok(Suggestion::new(text, key, 1, Vec::new(alloc))?)
+}
+
+fn example_document(alloc: Global) -> Result<Numbered, Fail> {
+    let suggestions = vec![in alloc; example_suggestion(alloc)?]?;
+    let document = Document::new(Text::of(alloc, "a")?, suggestions)?;
+    Ok(Numbered { seq: 1, document })
+}
+
+fn example_segment(alloc: Global) -> Result<Segment, Fail> {
+    let docs = vec![in alloc; example_document(alloc)?]?;
     if paths_at_most(docs.as_slice()) > MOST_SEGMENT_PATHS {
         return Err("too many paths".into());
     }
     Ok(Segment::of_docs(alloc, docs)?)
 }
 
-fn example_document(alloc: Global) -> Result<Numbered, Fail> {
-    let text = Text::of(alloc, "B")?;
-    let key = Key::of(Bytes::of(alloc, b"b")?)?;
-    let mut suggestions = Vec::new(alloc);
-    suggestions.push(Suggestion::new(text, key, 1, Vec::new(alloc))?)?;
-    let document = Document::new(Text::of(alloc, "a")?, suggestions)?;
-    Ok(Numbered { seq: 1, document })
-}
-
 #[test]
 fn one_document_has_189_bytes(rt: HostRuntime) -> Result<(), Fail> {
     let bytes = bytes_of(rt.alloc(), EXAMPLE)?;
-    let segment = segment_of_one(rt.alloc(), example_document(rt.alloc())?)?;
-    let written = segment.write()?;
+    let written = example_segment(rt.alloc())?.write()?;
     assert_eq!(rt; written.as_slice(), bytes.as_slice());
-    let checked = Segment::check(rt.alloc(), written)?;
-    let again = checked.write()?;
-    assert_eq!(rt; again.as_slice(), bytes.as_slice());
     Ok(())
 }

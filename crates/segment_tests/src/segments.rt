@@ -1,5 +1,6 @@
 use crate::making::document_of;
 use fst_walk::{Start, Starts};
+use seg_table::{Owner, SegTable};
 use segment::Segment;
 use sg_base::{Bytes, Key, List, Plain, Steps, Text};
 use sg_context::Query;
@@ -49,38 +50,59 @@ fn segment_of(alloc: Global, spelled: &str) -> Result<Segment, Fail> {
     Ok(Segment::of_batch(alloc, &batch)?)
 }
 
-fn shown_table(alloc: Global, segment: &Segment) -> Result<String, Fail> {
-    let table = segment.table();
-    let mut shown = String::new(alloc);
+fn push_numbers(told: &mut String, table: &SegTable) -> Result<(), Fail> {
     for doc in 0..table.len() {
-        shown.push_str(format!(in alloc; "{} ", table.seq(doc))?.as_str())?;
+        write!(told, "{} ", table.seq(doc))?;
     }
-    shown.push_str("|")?;
-    for owner in table.owners() {
-        shown.push_str(format!(in alloc; " {}.{}", owner.doc, owner.place)?.as_str())?;
-    }
-    shown.push_str(format!(in alloc; " | {} |", table.most_paths())?.as_str())?;
-    Ok(shown)
+    Ok(())
 }
 
-fn shown_start(alloc: Global, start: Option<Start>) -> Result<String, Fail> {
+fn push_owners(told: &mut String, owners: &[Owner]) -> Result<(), Fail> {
+    told.push_str("|")?;
+    for owner in owners {
+        write!(told, " {}.{}", owner.doc, owner.place)?;
+    }
+    Ok(())
+}
+
+fn push_start(told: &mut String, start: Option<Start>) -> Result<(), Fail> {
     let Some(start) = start else {
-        return Ok(format!(in alloc; "none")?);
+        told.push_str(" none")?;
+        return Ok(());
     };
     let spot = start.spot;
-    let place = format!(in alloc; "{}:{}", start.number, spot.ordinal)?;
-    Ok(format!(in alloc; "{place}*{}={}", start.boost, spot.cost)?)
+    write!(
+        told,
+        " {}:{}*{}={}",
+        start.number, spot.ordinal, start.boost, spot.cost
+    )?;
+    Ok(())
 }
 
-fn shown_starts(alloc: Global, segment: &Segment, prefix: &str) -> Result<String, Fail> {
+fn query_of(alloc: Global, prefix: &str) -> Result<Query, Fail> {
     let prefix = Key::of(Bytes::of(alloc, prefix.as_bytes())?)?;
-    let query = Query::new(prefix, Vec::new(alloc), 1)?;
+    Ok(Query::new(prefix, Vec::new(alloc), 1)?)
+}
+
+fn push_starts(told: &mut String, segment: &Segment, query: &Query) -> Result<(), Fail> {
     let mut steps = Steps::new(Plain);
-    let mut starts = Starts::new(segment.transducer(), &query);
-    let first = shown_start(alloc, starts.next(&mut steps))?;
-    let second = shown_start(alloc, starts.next(&mut steps))?;
-    let third = shown_start(alloc, starts.next(&mut steps))?;
-    Ok(format!(in alloc; "{first} {second} {third}")?)
+    let mut starts = Starts::new(segment.transducer(), query);
+    for _ in 0..3 {
+        push_start(told, starts.next(&mut steps))?;
+    }
+    Ok(())
+}
+
+fn shown(alloc: Global, ops: &str, prefix: &str) -> Result<String, Fail> {
+    let segment = segment_of(alloc, ops)?;
+    let query = query_of(alloc, prefix)?;
+    let table = segment.table();
+    let mut told = String::new(alloc);
+    push_numbers(&mut told, table)?;
+    push_owners(&mut told, table.owners())?;
+    write!(told, " | {} |", table.most_paths())?;
+    push_starts(&mut told, &segment, &query)?;
+    Ok(told)
 }
 
 #[test]
@@ -89,10 +111,7 @@ fn a_batch_gives_its_documents_owners_and_starts(rt: HostRuntime) -> Result<(), 
         let (name, rest) = row.split_once(": ").ok_or("no name")?;
         let (spelled, wanted) = rest.split_once(" => ").ok_or("no answer")?;
         let (ops, prefix) = spelled.split_once(" / ").ok_or("no prefix")?;
-        let segment = segment_of(rt.alloc(), ops)?;
-        let table = shown_table(rt.alloc(), &segment)?;
-        let starts = shown_starts(rt.alloc(), &segment, prefix)?;
-        let told = format!(in rt.alloc(); "{table} {starts}")?;
+        let told = shown(rt.alloc(), ops, prefix)?;
         assert_eq!(rt; told.as_str(), wanted, "{name}");
     }
     Ok(())

@@ -1,5 +1,5 @@
 use crate::making::documents_of;
-use seg_table::SegTable;
+use seg_table::{Owner, SegTable};
 use sg_base::{Plain, Steps};
 use sg_paths::{MOST_SEGMENT_PATHS, Path, paths_at_most, paths_of};
 use std::alloc::Global;
@@ -17,19 +17,23 @@ a context and a key given again: d k:5@a,a k:7@a k:7@a,b; e k:6@a => a/k#0=7(0.1
 ids that are fronts of others: ab k:1; a k:1; abc k:1; ab k:1; b k:1 => /k#0=1(0.0) /k#1=1(1.0) /k#2=1(2.0) /k#3=1(3.0) /k#4=1(4.0) | 1 | ab: 0 3
 an id of no document: b k:1; d k:1 => /k#0=1(0.0) /k#1=1(1.0) | 1 | c:";
 
-fn shown_path(alloc: Global, path: &Path) -> Result<String, Fail> {
+fn push_path(told: &mut String, path: &Path, owner: Owner) -> Result<(), Fail> {
     let key = str::from_utf8(path.key.as_slice())?;
-    let context = path.context.as_str();
-    let named = format!(in alloc; "{context}/{key}#{}={}", path.n, path.weight)?;
-    Ok(named)
+    let (context, number, weight) = (path.context.as_str(), path.n, path.weight);
+    write!(
+        told,
+        "{context}/{key}#{number}={weight}({}.{}) ",
+        owner.doc, owner.place
+    )?;
+    Ok(())
 }
 
-fn shown_run(alloc: Global, table: &SegTable, id: &str) -> Result<String, Fail> {
-    let mut shown = format!(in alloc; "{id}:")?;
+fn push_run(told: &mut String, table: &SegTable, id: &str) -> Result<(), Fail> {
+    write!(told, "| {} | {id}:", table.most_paths())?;
     for doc in table.with_id(id) {
-        shown.push_str(format!(in alloc; " {doc}")?.as_str())?;
+        write!(told, " {doc}")?;
     }
-    Ok(shown)
+    Ok(())
 }
 
 // The paths with their owners, the most of a document, and the documents with an id.
@@ -44,12 +48,9 @@ fn told(alloc: Global, spelled: &str, id: &str) -> Result<String, Fail> {
     let mut told = String::new(alloc);
     for (ordinal, path) in paths.iter().enumerate() {
         let owner = table.owner(ordinal as u32, &mut steps);
-        let named = shown_path(alloc, path)?;
-        told.push_str(named.as_str())?;
-        told.push_str(format!(in alloc; "({}.{}) ", owner.doc, owner.place)?.as_str())?;
+        push_path(&mut told, path, owner)?;
     }
-    let run = shown_run(alloc, &table, id)?;
-    told.push_str(format!(in alloc; "| {} | {run}", table.most_paths())?.as_str())?;
+    push_run(&mut told, &table, id)?;
     Ok(told)
 }
 
@@ -64,6 +65,15 @@ fn paths_owners_and_ids_are_those_of_the_documents(rt: HostRuntime) -> Result<()
         assert_eq!(rt; told.as_str(), wanted, "{name}");
     }
     Ok(())
+}
+
+fn table_of(alloc: Global, spelled: &str) -> Result<SegTable, Fail> {
+    let documents = documents_of(alloc, spelled)?;
+    if documents.len() > 100 || paths_at_most(documents.as_slice()) > MOST_SEGMENT_PATHS {
+        return Err("too many".into());
+    }
+    let paths = paths_of(alloc, documents.as_slice())?;
+    Ok(SegTable::of(documents, paths.as_slice())?)
 }
 
 // The id, and the text and the key of a suggestion.
@@ -82,33 +92,11 @@ fn shown_suggestion(alloc: Global, table: &SegTable, doc: u32, place: u8) -> Res
 
 #[test]
 fn a_table_lends_ids_texts_and_keys(rt: HostRuntime) -> Result<(), Fail> {
-    let documents = documents_of(rt.alloc(), "d k:5@a,b; e abz:5@x,y zzz:1 abc:2@")?;
-    if documents.len() > 100 || paths_at_most(documents.as_slice()) > MOST_SEGMENT_PATHS {
-        return Err("other documents".into());
-    }
-    let paths = paths_of(rt.alloc(), documents.as_slice())?;
-    let table = SegTable::of(documents, paths.as_slice())?;
+    let table = table_of(rt.alloc(), "d k:5@a,b; e abz:5@x,y zzz:1 abc:2@")?;
     let first = shown_suggestion(rt.alloc(), &table, 0, 0)?;
     assert_eq!(rt; first.as_str(), "d: k k");
     let last = shown_suggestion(rt.alloc(), &table, 1, 2)?;
     assert_eq!(rt; last.as_str(), "e: abc abc");
     assert_eq!(rt; table.bytes().len(), 83);
-    Ok(())
-}
-
-#[test]
-fn a_table_gives_its_documents(rt: HostRuntime) -> Result<(), Fail> {
-    let documents = documents_of(rt.alloc(), "b k:1; a k:2@x,y")?;
-    if documents.len() != 2 || paths_at_most(documents.as_slice()) > MOST_SEGMENT_PATHS {
-        return Err("other documents".into());
-    }
-    let paths = paths_of(rt.alloc(), documents.as_slice())?;
-    let table = SegTable::of(documents, paths.as_slice())?;
-    let second = table.document(1)?;
-    assert_eq!(rt; second.seq, 2);
-    assert_eq!(rt; second.document.id.as_str(), "a");
-    assert_eq!(rt; table.len(), 2);
-    assert_eq!(rt; table.owners().len(), 3);
-    assert_eq!(rt; table.ids(), [1, 0].as_slice());
     Ok(())
 }

@@ -1,10 +1,11 @@
 //! Walks over the transducer of a segment, beside a plain computation over the list of its paths.
-use fst_walk::{Cursor, Starts, seek};
+use fst_walk::{Cursor, Start, Starts, seek};
 use segment::Segment;
 use sg_base::{Bytes, CONTEXT_END, Context, Key, List, MOST_WEIGHT, Plain, Steps, Text};
 use sg_context::{Query, QueryContext, boost_of};
 use sg_paths::{Batch, Document, Op, Suggestion};
-use std::alloc::Global;
+use std::alloc::{AllocError, Global};
+use std::process::Abort;
 use std::test::Fail;
 
 /// A path with its cost.
@@ -47,35 +48,51 @@ fn marked(alloc: Global, text: &str) -> Result<String, Fail> {
     Ok(text.as_str().replace(alloc, "~", "\u{7f}")?)
 }
 
+/// The bytes of a path: its context, its end, the key, and number 0.
+fn bytes_of(alloc: Global, context: &str, key: &str) -> Result<Vec<u8>, AllocError> {
+    let mut bytes = Vec::from_slice(alloc, context.as_bytes())?;
+    bytes.push(CONTEXT_END)?;
+    bytes.extend_from_slice(key.as_bytes())?;
+    bytes.extend_from_slice(&[0, 0, 0, 0, 0])?;
+    Ok(bytes)
+}
+
+fn path_of(alloc: Global, line: &str) -> Result<Path, Fail> {
+    let (context, rest) = line.split_once('|').ok_or("no context")?;
+    let (key, cost) = rest.split_once('|').ok_or("no key")?;
+    let cost = cost.parse::<u32>()?;
+    let context = marked(alloc, context)?;
+    let bytes = bytes_of(alloc, context.as_str(), key)?;
+    let key = String::from_str(alloc, key)?;
+    Ok(Path {
+        context,
+        key,
+        bytes,
+        cost,
+    })
+}
+
 /// The paths of the table.
 fn listed(alloc: Global) -> Result<Vec<Path>, Fail> {
     let mut paths = Vec::new(alloc);
     for line in LISTED.split_whitespace() {
-        let (context, rest) = line.split_once('|').ok_or("no context")?;
-        let (key, cost) = rest.split_once('|').ok_or("no key")?;
-        let context = marked(alloc, context)?;
-        let mut bytes = Vec::from_slice(alloc, context.as_bytes())?;
-        bytes.push(CONTEXT_END)?;
-        bytes.extend_from_slice(key.as_bytes())?;
-        bytes.extend_from_slice(&[0, 0, 0, 0, 0])?;
-        paths.push(Path {
-            context,
-            key: String::from_str(alloc, key)?,
-            bytes,
-            cost: cost.parse::<u32>()?,
-        })?;
+        paths.push(path_of(alloc, line)?)?;
     }
     Ok(paths)
 }
 
-// The document of a path, which has its key as its text.
-fn document_of(alloc: Global, path: &Path) -> Result<Document, Fail> {
-    let context = Context::new(alloc, path.context.as_str())?;
+// A suggestion of a path, which has its key as its text.
+fn suggestion_of(alloc: Global, path: &Path) -> Result<Suggestion, Fail> {
+    let contexts = vec![in alloc; Context::new(alloc, path.context.as_str())?]?;
     let text = Text::of(alloc, path.key.as_str())?;
     let key = Key::of(Bytes::of(alloc, path.key.as_bytes())?)?;
     let weight = MOST_WEIGHT.saturating_sub(path.cost);
-    let suggestion = Suggestion::new(text, key, weight, vec![in alloc; context]?)?;
-    Ok(Document::new(Text::of(alloc, "d")?, vec![in alloc; suggestion]?)?)
+    Ok(Suggestion::new(text, key, weight, contexts)?)
+}
+
+fn document_of(alloc: Global, path: &Path) -> Result<Document, Fail> {
+    let suggestions = vec![in alloc; suggestion_of(alloc, path)?]?;
+    Ok(Document::new(Text::of(alloc, "d")?, suggestions)?)
 }
 
 // The segment that has these paths alone.
@@ -132,26 +149,44 @@ fn contexts_of<'p>(alloc: Global, paths: &'p [Path]) -> Result<Vec<&'p [u8]>, Fa
     Ok(contexts)
 }
 
+/// The boost of a context, and the place of its paths with the query's prefix.
+fn plain_start(
+    alloc: Global,
+    paths: &[Path],
+    query: &Query,
+    context: &[u8],
+) -> Result<Option<(u32, usize, u32)>, Fail> {
+    let mut front = Vec::from_slice(alloc, context)?;
+    front.push(CONTEXT_END)?;
+    front.extend_from_slice(query.prefix.as_slice())?;
+    let boost = boost_of(query.contexts.items(), context);
+    let place = place_of(paths, front.as_slice());
+    if let (Some(boost), Some((ordinal, cost))) = (boost, place) {
+        return Ok(Some((boost, ordinal, cost)));
+    }
+    Ok(None)
+}
+
 /// The starts of a query by all paths, a line each: number, bytes of the context, boost, ordinal and
 /// cost.
 fn plain_starts(alloc: Global, paths: &[Path], query: &Query) -> Result<String, Fail> {
-    let mut starts = Vec::new(alloc);
+    let mut text = String::new(alloc);
+    let mut number: u32 = 0;
     for context in contexts_of(alloc, paths)? {
-        let mut front = Vec::from_slice(alloc, context)?;
-        front.push(CONTEXT_END)?;
-        front.extend_from_slice(query.prefix.as_slice())?;
-        let boost = boost_of(query.contexts.items(), context);
-        let place = place_of(paths, front.as_slice());
-        if let (Some(boost), Some((ordinal, cost))) = (boost, place) {
-            starts.push((context.len(), boost, ordinal, cost))?;
+        if let Some((boost, ordinal, cost)) = plain_start(alloc, paths, query, context)? {
+            let bytes = context.len();
+            write!(text, "{number} {bytes} {boost} {ordinal} {cost}\n")?;
+            number = number.saturating_add(1);
         }
     }
-    let mut text = String::new(alloc);
-    for (number, (context, boost, ordinal, cost)) in starts.iter().enumerate() {
-        let line = format!(in alloc; "{number} {context} {boost} {ordinal} {cost}\n")?;
-        text.push_str(line.as_str())?;
-    }
     Ok(text)
+}
+
+fn push_start(text: &mut String, start: &Start) -> Result<(), Fail> {
+    let (number, bytes, boost) = (start.number, start.context, start.boost);
+    let (ordinal, cost) = (start.spot.ordinal, start.spot.cost);
+    write!(text, "{number} {bytes} {boost} {ordinal} {cost}\n")?;
+    Ok(())
 }
 
 /// The same, by the walk.
@@ -163,34 +198,31 @@ fn found_starts(alloc: Global, segment: &Segment, query: &Query) -> Result<Strin
         let Some(start) = starts.next(&mut steps) else {
             return Ok(text);
         };
-        let line = format!(in alloc;
-            "{} {} {} {} {}\n",
-            start.number, start.context, start.boost, start.spot.ordinal, start.spot.cost
-        )?;
-        text.push_str(line.as_str())?;
+        push_start(&mut text, &start)?;
     }
     Err("the starts have no end".into())
+}
+
+fn query_context_of(alloc: Global, spelled: &str) -> Result<QueryContext, Fail> {
+    let (name, boost) = spelled.split_once('=').ok_or("no boost")?;
+    let boost = boost.parse::<u32>()?;
+    let beginning = name.strip_suffix('*');
+    let text = marked(alloc, beginning.unwrap_or(name))?;
+    let context = Context::new(alloc, text.as_str())?;
+    Ok(QueryContext::new(context, boost, beginning.is_some())?)
 }
 
 /// The query contexts that a text spells: `x=2` has the boost 2, and `x*=2` matches by prefix.
 fn asked_of(alloc: Global, spelled: &str) -> Result<Vec<QueryContext>, Fail> {
     let mut asked = Vec::new(alloc);
     for word in spelled.split_whitespace() {
-        let (name, boost) = word.split_once('=').ok_or("no boost")?;
-        let boost = boost.parse::<u32>()?;
-        let beginning = name.strip_suffix('*');
-        let text = marked(alloc, beginning.unwrap_or(name))?;
-        let context = Context::new(alloc, text.as_str())?;
-        asked.push(QueryContext::new(context, boost, beginning.is_some())?)?;
+        asked.push(query_context_of(alloc, word)?)?;
     }
     Ok(asked)
 }
 
 fn query_of(alloc: Global, prefix: &str, spelled: &str) -> Result<Query, Fail> {
-    let bytes = Bytes::of(alloc, prefix.as_bytes())?;
-    let Ok(prefix) = Key::of(bytes) else {
-        return Err("no key".into());
-    };
+    let prefix = Key::of(Bytes::of(alloc, prefix.as_bytes())?)?;
     Ok(Query::new(prefix, asked_of(alloc, spelled)?, 5)?)
 }
 
@@ -210,29 +242,44 @@ fn the_cursor_gives_all_paths(rt: HostRuntime) -> Result<(), Fail> {
     Ok(())
 }
 
+fn found_place(segment: &Segment, front: &[u8]) -> Option<(usize, u32)> {
+    let mut steps = Steps::new(Plain);
+    let spot = seek(segment.transducer(), front, &mut steps)?;
+    Some((spot.ordinal as usize, spot.cost))
+}
+
+// Whether no path begins with this front and `!`.
+fn misses(alloc: Global, segment: &Segment, front: &[u8]) -> Result<bool, Fail> {
+    let mut other = Vec::from_slice(alloc, front)?;
+    other.push(b'!')?;
+    Ok(found_place(segment, other.as_slice()).is_none())
+}
+
+fn compare_fronts(
+    rt: &impl Abort,
+    alloc: Global,
+    paths: &[Path],
+    segment: &Segment,
+    path: &[u8],
+) -> Result<(), Fail> {
+    for count in 1..=path.len() {
+        let front = &path[..count];
+        assert!(rt;
+            found_place(segment, front) == place_of(paths, front),
+            "{front:?}"
+        );
+        assert!(rt; misses(alloc, segment, front)?, "{front:?} and a byte more");
+    }
+    Ok(())
+}
+
 #[test]
 fn each_front_has_its_place(rt: HostRuntime) -> Result<(), Fail> {
     let paths = listed(rt.alloc())?;
     let segment = segment_of(rt.alloc(), paths.as_slice())?;
-    let transducer = segment.transducer();
-    let mut steps = Steps::new(Plain);
     for path in paths.iter() {
-        let mut front = Vec::new(rt.alloc());
-        for byte in path.bytes.iter() {
-            front.push(*byte)?;
-            let place = place_of(paths.as_slice(), front.as_slice());
-            let found = seek(transducer, front.as_slice(), &mut steps).map(|spot| (
-                spot.ordinal as usize,
-                spot.cost,
-            ));
-            assert_eq!(rt; found, place, "{front:?}");
-            let mut other = Vec::from_slice(rt.alloc(), front.as_slice())?;
-            other.push(b'!')?;
-            assert!(rt;
-                seek(transducer, other.as_slice(), &mut steps).is_none(),
-                "{other:?}"
-            );
-        }
+        let bytes = path.bytes.as_slice();
+        compare_fronts(&rt, rt.alloc(), paths.as_slice(), &segment, bytes)?;
     }
     Ok(())
 }
@@ -264,17 +311,27 @@ b|caaa*=1 ca=3 c*=2
 b|c~*=7 c=2
 b|nowhere=5 zzz*=6";
 
+fn compare_starts(
+    rt: &impl Abort,
+    alloc: Global,
+    segment: &Segment,
+    paths: &[Path],
+    query: &Query,
+) -> Result<(), Fail> {
+    let found = found_starts(alloc, segment, query)?;
+    let wanted = plain_starts(alloc, paths, query)?;
+    assert_eq!(rt; found.as_str(), wanted.as_str());
+    Ok(())
+}
+
 #[test]
 fn starts_are_those_of_all_paths(rt: HostRuntime) -> Result<(), Fail> {
-    let alloc = rt.alloc();
-    let paths = listed(alloc)?;
-    let segment = segment_of(alloc, paths.as_slice())?;
+    let paths = listed(rt.alloc())?;
+    let segment = segment_of(rt.alloc(), paths.as_slice())?;
     for line in QUERIES.lines() {
         let (prefix, spelled) = line.split_once('|').ok_or("no prefix")?;
-        let query = query_of(alloc, prefix, spelled)?;
-        let found = found_starts(alloc, &segment, &query)?;
-        let wanted = plain_starts(alloc, paths.as_slice(), &query)?;
-        assert_eq!(rt; found.as_str(), wanted.as_str(), "{line}");
+        let query = query_of(rt.alloc(), prefix, spelled)?;
+        compare_starts(&rt, rt.alloc(), &segment, paths.as_slice(), &query)?;
     }
     Ok(())
 }
@@ -296,25 +353,20 @@ const WORKED: &str = "0 0 4 2 5
 
 #[test]
 fn starts_of_a_worked_query(rt: HostRuntime) -> Result<(), Fail> {
-    let alloc = rt.alloc();
-    let paths = listed(alloc)?;
-    let segment = segment_of(alloc, paths.as_slice())?;
-    let query = query_of(alloc, "ber", "*=4 a=9 ab*=5")?;
-    let found = found_starts(alloc, &segment, &query)?;
+    let segment = segment_of(rt.alloc(), listed(rt.alloc())?.as_slice())?;
+    let query = query_of(rt.alloc(), "ber", "*=4 a=9 ab*=5")?;
+    let found = found_starts(rt.alloc(), &segment, &query)?;
     assert_eq!(rt; found.as_str(), WORKED);
     Ok(())
 }
 
 #[test]
 fn sixty_four_query_contexts_overlap(rt: HostRuntime) -> Result<(), Fail> {
-    let alloc = rt.alloc();
-    let paths = listed(alloc)?;
-    let segment = segment_of(alloc, paths.as_slice())?;
+    let paths = listed(rt.alloc())?;
+    let segment = segment_of(rt.alloc(), paths.as_slice())?;
     for prefix in ["", "b", "ber", "cork", "z"] {
-        let query = query_of(alloc, prefix, MANY)?;
-        let found = found_starts(alloc, &segment, &query)?;
-        let wanted = plain_starts(alloc, paths.as_slice(), &query)?;
-        assert_eq!(rt; found.as_str(), wanted.as_str(), "{prefix}");
+        let query = query_of(rt.alloc(), prefix, MANY)?;
+        compare_starts(&rt, rt.alloc(), &segment, paths.as_slice(), &query)?;
     }
     Ok(())
 }

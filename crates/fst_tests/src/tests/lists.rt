@@ -73,20 +73,26 @@ fn counts_of(bytes: &[u8]) -> Option<(u32, u32)> {
     }
 }
 
-/// Builds the transducer of the rows, checks its bytes, and compares what a walk over it meets.
-fn compare(rt: &impl Abort, alloc: Global, rows: &[Row], counts: (u32, u32)) -> Result<(), Fail> {
+/// The transducer that is built of the rows, from its bytes.
+fn built(alloc: Global, rows: &[Row]) -> Result<Transducer, Fail> {
     let built = transducer_of(alloc, rows)?;
     let bytes = Bytes::of(alloc, built.bytes())?;
-    let Ok(transducer) = Transducer::check(alloc, bytes) else {
-        return Err("what was built is refused")?;
-    };
-    assert_eq!(rt; counts_of(transducer.bytes()), Some(counts));
-    assert_eq!(rt; transducer.paths() as usize, rows.len());
+    Ok(Transducer::check(alloc, bytes)?)
+}
+
+fn same(one: &Row, other: &Row) -> bool {
+    one.path.as_slice() == other.path.as_slice() && one.cost == other.cost
+}
+
+/// Builds the transducer of the rows, checks its bytes, and compares what a walk over it meets.
+fn compare(rt: &impl Abort, alloc: Global, rows: &[Row], counts: (u32, u32)) -> Result<(), Fail> {
+    let transducer = built(alloc, rows)?;
+    assert!(rt; counts_of(transducer.bytes()) == Some(counts));
+    assert!(rt; transducer.paths() as usize == rows.len());
     let found = rows_of(alloc, &transducer)?;
-    assert_eq!(rt; found.len(), rows.len());
+    assert!(rt; found.len() == rows.len());
     for (one, other) in found.iter().zip(rows) {
-        assert!(rt; one.path.as_slice() == other.path.as_slice());
-        assert_eq!(rt; one.cost, other.cost);
+        assert!(rt; same(one, other));
     }
     Ok(())
 }
@@ -98,11 +104,17 @@ fn counts_from(line: &str) -> Option<(u32, u32)> {
 
 fn row_from(alloc: Global, line: &str) -> Result<Row, Fail> {
     let (path, cost) = line.split_once(' ').ok_or("no cost")?;
-    let Ok(cost) = cost.parse() else {
-        return Err("no number")?;
-    };
+    let cost = cost.parse::<u32>()?;
     let path = Vec::from_slice(alloc, path.as_bytes())?;
     Ok(Row { path, cost })
+}
+
+fn rows_from(alloc: Global, lines: &str) -> Result<Vec<Row>, Fail> {
+    let mut rows = Vec::new(alloc);
+    for line in lines.lines() {
+        rows.push(row_from(alloc, line)?)?;
+    }
+    Ok(rows)
 }
 
 #[test]
@@ -110,11 +122,8 @@ fn lists_come_back_from_as_few_nodes_as_can_be(rt: HostRuntime) -> Result<(), Fa
     for list in LISTS.split("\n\n") {
         let (counts, lines) = list.split_once('\n').ok_or("no list")?;
         let counts = counts_from(counts).ok_or("no counts")?;
-        let mut rows = Vec::new(rt.alloc());
-        for line in lines.lines() {
-            rows.push(row_from(rt.alloc(), line)?)?;
-        }
-        compare(&rt, rt.alloc(), &rows, counts)?;
+        let rows = rows_from(rt.alloc(), lines)?;
+        compare(&rt, rt.alloc(), rows.as_slice(), counts)?;
     }
     Ok(())
 }
@@ -132,27 +141,32 @@ fn long_rows(alloc: Global) -> Result<Vec<Row>, Fail> {
 
 #[test]
 fn paths_may_have_324_bytes(rt: HostRuntime) -> Result<(), Fail> {
-    compare(&rt, rt.alloc(), &long_rows(rt.alloc())?, (325, 325))
+    let rows = long_rows(rt.alloc())?;
+    compare(&rt, rt.alloc(), rows.as_slice(), (325, 325))
+}
+
+fn push_wide(rows: &mut Vec<Row>, labels: &[u8], cost: u32) -> Result<(), Fail> {
+    let path = Vec::from_slice(*rows.allocator(), labels)?;
+    rows.push(Row { path, cost })?;
+    Ok(())
+}
+
+/// All labels under the label 7.
+fn push_seventh(rows: &mut Vec<Row>) -> Result<(), Fail> {
+    for label in 0..=255u8 {
+        push_wide(rows, &[7, label], 2 * label as u32)?;
+    }
+    Ok(())
 }
 
 /// Under the label 7 all labels, and beside it all others.
 fn wide_rows(alloc: Global) -> Result<Vec<Row>, Fail> {
     let mut rows = Vec::new(alloc);
-    for x in 0..=255u8 {
-        if x == 7 {
-            for y in 0..=255u8 {
-                let path = Vec::from_slice(alloc, &[x, y])?;
-                rows.push(Row {
-                    path,
-                    cost: 2 * y as u32,
-                })?;
-            }
+    for label in 0..=255u8 {
+        if label == 7 {
+            push_seventh(&mut rows)?;
         } else {
-            let path = Vec::from_slice(alloc, &[x])?;
-            rows.push(Row {
-                path,
-                cost: x as u32,
-            })?;
+            push_wide(&mut rows, &[label], label as u32)?;
         }
     }
     Ok(rows)
@@ -160,5 +174,6 @@ fn wide_rows(alloc: Global) -> Result<Vec<Row>, Fail> {
 
 #[test]
 fn a_node_may_have_all_labels(rt: HostRuntime) -> Result<(), Fail> {
-    compare(&rt, rt.alloc(), &wide_rows(rt.alloc())?, (3, 512))
+    let rows = wide_rows(rt.alloc())?;
+    compare(&rt, rt.alloc(), rows.as_slice(), (3, 512))
 }

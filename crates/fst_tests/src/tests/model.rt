@@ -1,8 +1,8 @@
 //! A plain table of a transducer's paths, by a walk over its nodes.
 use crate::Row;
 use fst_code::Transducer;
-use sg_base::{NodeId, Plain, Steps};
-use std::alloc::{AllocError, Global};
+use sg_base::{Edge, NodeId, Plain, Steps};
+use std::alloc::Global;
 use std::test::Fail;
 
 /// A node on the way: the arc to take next, the cost so far, and how many paths came before.
@@ -17,61 +17,80 @@ struct Step {
 /// More steps than a walk over any list of these tests has.
 const MOST_STEPS: usize = 100_000;
 
-fn row_of(alloc: Global, path: &[u8], cost: u32) -> Result<Row, AllocError> {
-    let path = Vec::from_slice(alloc, path)?;
-    Ok(Row { path, cost })
+/// The paths so far, the bytes of the way, and the nodes on it.
+#[derive(Drop)]
+struct Walk {
+    rows: Vec<Row>,
+    path: Vec<u8>,
+    steps: Vec<Step>,
+}
+
+fn push_row(walk: &mut Walk, cost: u32) -> Result<(), Fail> {
+    let path = Vec::from_slice(*walk.path.allocator(), walk.path.as_slice())?;
+    walk.rows.push(Row { path, cost })?;
+    Ok(())
+}
+
+/// Goes on by an arc, which says how many paths come before it.
+fn push_edge(walk: &mut Walk, step: Step, edge: Edge) -> Result<(), Fail> {
+    let before = walk.rows.len();
+    if step.before.checked_add(edge.before as usize) != Some(before) {
+        return Err("an arc says another number of paths before it".into());
+    }
+    let cost = step
+        .cost
+        .checked_add(edge.cost)
+        .ok_or("a cost is too great")?;
+    let at = step.at.saturating_add(1);
+    walk.steps.push(Step { at, ..step })?;
+    walk.path.push(edge.label)?;
+    walk.steps.push(Step {
+        node: edge.target,
+        at: 0,
+        cost,
+        before,
+    })?;
+    Ok(())
+}
+
+fn go(walk: &mut Walk, transducer: &Transducer, step: Step) -> Result<(), Fail> {
+    let root = transducer.root().ok_or("no root")?;
+    if step.node.0 > root.0 {
+        return Err("an arc leads past the root".into());
+    }
+    let mut counter = Steps::new(Plain);
+    let node = transducer.node(step.node, &mut counter);
+    if step.at < node.len() {
+        return push_edge(walk, step, node.edge(step.at));
+    }
+    if step.node.0 == 0 {
+        push_row(walk, step.cost)?;
+    }
+    let _ = walk.path.pop();
+    Ok(())
 }
 
 /// All paths in the order in which a walk meets them, with the sums of their arcs' costs. Each arc
 /// says how many paths come before it.
 pub fn rows_of(alloc: Global, transducer: &Transducer) -> Result<Vec<Row>, Fail> {
-    let mut rows = Vec::new(alloc);
-    let Some(root) = transducer.root() else {
-        return Ok(rows);
+    let mut walk = Walk {
+        rows: Vec::new(alloc),
+        path: Vec::new(alloc),
+        steps: Vec::new(alloc),
     };
-    let mut path = Vec::new(alloc);
-    let mut counter = Steps::new(Plain);
-    let mut steps = Vec::new(alloc);
-    steps.push(Step {
-        node: root,
-        at: 0,
-        cost: 0,
-        before: 0,
-    })?;
-    for _ in 0..MOST_STEPS {
-        let Some(step) = steps.pop() else {
-            return Ok(rows);
-        };
-        if step.node.0 > root.0 {
-            return Err("an arc leads past the root")?;
-        }
-        let node = transducer.node(step.node, &mut counter);
-        if step.node.0 == 0 {
-            rows.push(row_of(alloc, path.as_slice(), step.cost)?)?;
-            let _ = path.pop();
-        } else if step.at < node.len() {
-            let edge = node.edge(step.at);
-            if step.before.checked_add(edge.before as usize) != Some(rows.len()) {
-                return Err("an arc says another number of paths before it")?;
-            }
-            let cost = step
-                .cost
-                .checked_add(edge.cost)
-                .ok_or("a cost is too great")?;
-            steps.push(Step {
-                at: step.at + 1,
-                ..step
-            })?;
-            path.push(edge.label)?;
-            steps.push(Step {
-                node: edge.target,
-                at: 0,
-                cost,
-                before: rows.len(),
-            })?;
-        } else {
-            let _ = path.pop();
-        }
+    if let Some(node) = transducer.root() {
+        walk.steps.push(Step {
+            node,
+            at: 0,
+            cost: 0,
+            before: 0,
+        })?;
     }
-    Err("the walk has no end")?
+    for _ in 0..MOST_STEPS {
+        let Some(step) = walk.steps.pop() else {
+            return Ok(walk.rows);
+        };
+        go(&mut walk, transducer, step)?;
+    }
+    Err("the walk has no end".into())
 }

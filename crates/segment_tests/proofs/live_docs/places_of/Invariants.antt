@@ -1,7 +1,0 @@
--- Each place so far is one of a document.
-use Rattle.std.proofs.Common.{◌<◌}
-use Rattle.std.specs.List.{All}
-use Rattle.segment_tests.proofs.live_docs.places_of.Given as goal
-
-abbrev pub invariant-loop-word : goal.invariant-loop-word
-invariant-loop-word l = All (λ place. place < l.count) l.places.items
