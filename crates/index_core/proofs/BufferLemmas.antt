@@ -1,40 +1,54 @@
 -- The store once an operation more is buffered, and once what is buffered is frozen.
 use Rattle.std.proofs.Common.{◌≡◌, ℕ, ◌+◌, ◌<◌, ◌≤◌, Bool, true, false, nat_eq, List, [], ◌∷◌}
-use Rattle.std.proofs.Common.{◌++◌, length, drop, refl, sym, ◌∙◌, ap, subst, arith}
+use Rattle.std.proofs.Common.{◌++◌, ◌||◌, length, drop, refl, sym, ◌∙◌, ap, subst, arith}
 use Rattle.std.specs.Prelude.{if◌then◌else◌, nat_lt}
 use Rattle.std.specs.List.{filter_map, AllByRecursion}
 use Rattle.std.proofs.lemmas.Bool.Decides.{nat_tests}
 use Rattle.std.proofs.lemmas.List.{append_assoc, append-nil, take-append-le, length-append, drop_at}
 use Rattle.std.proofs.lemmas.List.Elements.{filter_map-append}
+use Rattle.std.proofs.lemmas.List.Folds.{list_any-append}
 use Rattle.std.proofs.lemmas.Grind.{flat_map-append}
 use Rattle.sg_paths.specs.Operations.{PlainOp, PlainBatch}
 use Rattle.segment.specs.Pieces.{PlainPiece}
 use Rattle.index_holds.specs.Holders.{with_current}
 use Rattle.index_core.specs.declared.limits.TheConstants.{MOST_OPERATIONS, BATCH_OPERATIONS}
 use Rattle.index_core.specs.Histories.{accept, freeze, Record, accepted, frozen, frozen_upto, drawn}
-use Rattle.index_core.specs.Histories.{drawn_generation, built_generation}
+use Rattle.index_core.specs.Histories.{drawn_generation, built_generation, is_among, current}
 use Rattle.index_core.specs.Records.{with_event, buffered, next_generation}
+use Rattle.index_core.specs.HeldEvents.{AreDrawn}
 use Rattle.index_core.specs.LegalHistories.{IsLegalNext}
 use Rattle.index_core.specs.Calls.{with_operation, after_accept, after_freeze}
 use Rattle.index_core.specs.Keeping.{IsPlain, AreCurrent, buffered_piece}
-use Rattle.index_core.specs.Fields.{Stored, record_of, AreFields, AreHeld, IsKept, AreBatchesFrom}
-use Rattle.index_core.specs.Fields.{batched}
+use Rattle.index_core.specs.Fields.{Stored, record_of, AreFields, AreHeld, IsKept}
+use Rattle.index_core.specs.Slots.{AreBatchesFrom}
+use Rattle.index_core.specs.Slots.{batched}
 use Rattle.index_core.specs.Fields.{accepting, accepting_one, freezing, next_batch, next_piece}
 use Rattle.index_core.proofs.ListLemmas.{all_weaker, all_more}
 use Rattle.index_core.proofs.HistoryLemmas.{skips, accepted-skip, accepted-more, frozen-skip}
-use Rattle.index_core.proofs.HistoryLemmas.{frozen-more, merges-none}
+use Rattle.index_core.proofs.HistoryLemmas.{frozen-more}
+use Rattle.index_core.proofs.EventLemmas.{current-skip}
+use Rattle.index_core.proofs.HeldEventLemmas.{current-freeze, undrawn_not_replaced}
+use Rattle.index_core.proofs.KnownMergeLemmas.{known}
+use Rattle.index_core.proofs.MergesLemmas.{merges_quiet}
+use Rattle.index_core.proofs.OnceLemmas.{one_accept, one_freeze}
 use Rattle.index_core.proofs.LegalLemmas.{AreLegal, are_legal, legal_more}
-use Rattle.index_core.proofs.AcceptLemmas.{accept_keeps}
+use Rattle.index_core.proofs.AcceptLemmas.{are_within, accept_keeps}
 use Rattle.index_core.proofs.FreezeLemmas.{freeze_keeps}
 use Rattle.index_core.proofs.KeptLemmas.{counted, buffered_is, IsNear, near, kept_near, Leaves}
-use Rattle.index_core.proofs.KeptLemmas.{same_views, quiet_accept}
-use Rattle.index_core.proofs.HeldLemmas.{held_quiet, held_freeze}
+use Rattle.index_core.proofs.KeptLemmas.{same_views, same_lists, quiet_accept}
+use Rattle.index_core.proofs.HeldLemmas.{held_quiet, held_freeze, undrawn}
+
+-- what is among numbers is among them with one more
+pub among_front : (n x : ℕ) (ns : List ℕ) → is_among n ns ≡ true → is_among n (ns ++ x ∷ []) ≡ true
+among_front n x ns there =
+    list_any-append (nat_eq n) ns (x ∷ [])
+    ∙ ap (λ (b : Bool). b || is_among n (x ∷ [])) there
 
 -- ---- one operation more
 
 fields_accept : (k : Stored) (caller : ℕ) (operation : PlainOp)
     → AreFields k → k.frozen_count + length k.buffer < MOST_OPERATIONS
-    → length k.history + 1 + k.open_count ≤ k.places
+    → length k.history + 1 + k.open_count + k.lists.merges_open ≤ k.places
     → AreFields (accepting caller operation k)
 fields_accept k caller operation fields room enough =
     let event = accept caller (k.frozen_count + length k.buffer + 1) in
@@ -47,6 +61,7 @@ fields_accept k caller operation fields room enough =
       few_drawn = fields.few_drawn;
       most_operations = omega (arith, room, length-append k.buffer (operation ∷ []));
       views = same_views fields.views event refl refl;
+      own_lists = same_lists fields.own_lists event refl refl (λ n. refl) refl;
       room = omega (arith, enough, length-append k.history (event ∷ []));
     }
 
@@ -57,10 +72,15 @@ added_is k caller operation kept =
     let later = append_assoc (batched k.batches) k.buffer (operation ∷ []) in
     rw count (rw later refl)
 
-plain_accept : (r : Record) (caller : ℕ) (operation : PlainOp) → IsPlain r
+pub plain_accept : (r : Record) (caller : ℕ) (operation : PlainOp) → IsPlain r
     → length r.journal + 1 ≤ MOST_OPERATIONS → IsPlain (with_operation caller operation r)
 plain_accept r caller operation plain room =
     let event = accept caller (accepted r.history + 1) in
+    let r' = with_operation caller operation r in
+    let frozen-same : frozen (r.history ++ event ∷ []) ≡ frozen r.history =
+    frozen-skip r.history event refl in
+    let current-same : current (r.history ++ event ∷ []) ≡ current r.history =
+    current-skip r.history event (λ n. refl) refl refl in
     let long : length (r.journal ++ operation ∷ []) ≡ length r.journal + 1 =
     length-append r.journal (operation ∷ []) in
     let same : drawn (r.history ++ event ∷ []) ≡ drawn r.history =
@@ -72,12 +92,12 @@ plain_accept r caller operation plain room =
         plain.numbered,
         accepted-more r.history caller (accepted r.history + 1),
       );
-      unmerged = merges-none 0 r.history event (λ n. refl) plain.unmerged;
-      frozen_before = rw (skips frozen_upto r.history event refl)
-          (all_weaker (λ n. n ≤ length r.journal) (λ n. n ≤ length (r.journal ++ operation ∷ []))
-          (λ n below. omega (arith, below, long)) (filter_map frozen_upto r.history)
-          plain.frozen_before);
-      frozen_within = omega (arith, frozen-skip r.history event refl, plain.frozen_within, long);
+      merges = merges_quiet r event r'.journal plain.merges (λ n. refl) refl
+          (omega (arith, frozen-same)) (λ g there. ap (is_among g) current-same ∙ there)
+          (one_accept r caller operation (are_within r plain) plain.merges.once);
+      frozen_before = rw (frozen-same, skips frozen_upto r.history event refl)
+          plain.frozen_before;
+      frozen_within = omega (arith, frozen-same, plain.frozen_within, long);
       drawn_before = rw same plain.drawn_before;
       built_before = rw same (rw (skips built_generation r.history event refl) plain.built_before);
       most = omega (arith, long, room);
@@ -85,7 +105,7 @@ plain_accept r caller operation plain room =
 
 pub near_accept : {k : Stored} → IsKept k → (caller : ℕ) (operation : PlainOp)
     → k.frozen_count + length k.buffer < MOST_OPERATIONS
-    → length k.history + 1 + k.open_count ≤ k.places
+    → length k.history + 1 + k.open_count + k.lists.merges_open ≤ k.places
     → IsNear (accepting caller operation k)
 near_accept {k} kept caller operation room enough =
     let r = record_of k in
@@ -145,11 +165,12 @@ same_journal k caller =
     append-nil (batched (k.batches ++ next_batch k ∷ [])) ∙ batched-next k k.batches
 
 -- the generation that a freeze draws
-next_is : (k : Stored) → AreFields k → next_generation (record_of k) ≡ k.drawn_count + 1
+pub next_is : (k : Stored) → AreFields k → next_generation (record_of k) ≡ k.drawn_count + 1
 next_is k fields = ap (λ (n : ℕ). n + 1) fields.drawn_generations
 
 fields_freeze : (k : Stored) (caller : ℕ)
-    → AreFields k → 0 < length k.buffer → length k.history + 1 + k.open_count ≤ k.places
+    → AreFields k → 0 < length k.buffer
+    → length k.history + 1 + k.open_count + k.lists.merges_open ≤ k.places
     → AreFields (freezing caller k)
 fields_freeze k caller fields some enough =
     let upto = k.frozen_count + length k.buffer in
@@ -173,6 +194,7 @@ fields_freeze k caller fields some enough =
       few_drawn = omega (arith, fields.few_drawn, some);
       most_operations = omega (arith, fields.most_operations);
       views = same_views fields.views event refl refl;
+      own_lists = same_lists fields.own_lists event refl refl (λ n. refl) refl;
       room = omega (arith, enough, length-append k.history (event ∷ []));
     }
 
@@ -201,12 +223,19 @@ piece_is k numbered fields =
     drop_at (batched k.batches) k.buffer k.frozen_count fields.frozen_operations in
     rw (generation, last, upto, operations) refl
 
-plain_freeze : (r : Record) (caller : ℕ) → IsPlain r
+pub plain_freeze : (r : Record) (caller : ℕ) → IsPlain r → AreDrawn r
     → IsPlain (with_event r (freeze caller (next_generation r) (frozen r.history + 1)
     (accepted r.history)))
-plain_freeze r caller plain =
+plain_freeze r caller plain were =
     let g : ℕ = next_generation r in
     let event = freeze caller g (frozen r.history + 1) (accepted r.history) in
+    let frozen-is : frozen (r.history ++ event ∷ []) ≡ accepted r.history =
+    frozen-more r.history caller g (frozen r.history + 1) (accepted r.history) in
+    let later : frozen r.history ≤ accepted r.history =
+    omega (arith, plain.frozen_within, plain.numbered) in
+    let current-is : current (r.history ++ event ∷ []) ≡ current r.history ++ g ∷ [] =
+    current-freeze r caller g (frozen r.history + 1) (accepted r.history)
+    (undrawn_not_replaced r were g (undrawn g (drawn r.history) plain.drawn_before)) in
     let drawn-is : drawn (r.history ++ event ∷ []) ≡ drawn r.history ++ g ∷ [] =
     filter_map-append drawn_generation r.history (event ∷ []) in
     let next : next_generation (with_event r event) ≡ g + 1 =
@@ -214,15 +243,18 @@ plain_freeze r caller plain =
     ∙ omega (arith, length-append (drawn r.history) (g ∷ [])) in
     record {
       numbered = plain.numbered ∙ sym (accepted-skip r.history event refl);
-      unmerged = merges-none 0 r.history event (λ n. refl) plain.unmerged;
-      frozen_before = rw (filter_map-append frozen_upto r.history (event ∷ []))
-          (all_more (λ n. n ≤ length r.journal) (filter_map frozen_upto r.history)
-          (accepted r.history) plain.frozen_before (omega (arith, plain.numbered)));
-      frozen_within = omega (
-        arith,
-        frozen-more r.history caller g (frozen r.history + 1) (accepted r.history),
-        plain.numbered,
-      );
+      merges = merges_quiet r event r.journal plain.merges (λ n. refl) refl
+          (omega (arith, frozen-is, later))
+          (λ x there. ap (is_among x) current-is ∙ among_front x g (current r.history) there)
+          (one_freeze r caller g (known r plain.merges) were plain.drawn_before
+          plain.frozen_before (accepted r.history) plain.merges.once);
+      frozen_before = rw (frozen-is, filter_map-append frozen_upto r.history (event ∷ []))
+          (all_more (λ n. n ≤ accepted r.history) (filter_map frozen_upto r.history)
+          (accepted r.history)
+          (all_weaker (λ n. n ≤ frozen r.history) (λ n. n ≤ accepted r.history)
+          (λ n below. omega (arith, below, later)) (filter_map frozen_upto r.history)
+          plain.frozen_before) (omega arith));
+      frozen_within = omega (arith, frozen-is, plain.numbered);
       drawn_before = subst (λ (n : ℕ). AllByRecursion (λ x. x < n)
           (drawn (r.history ++ event ∷ []))) (sym next)
           (subst (AllByRecursion (λ x. x < g + 1)) (sym drawn-is)
@@ -239,7 +271,7 @@ plain_freeze r caller plain =
     }
 
 pub kept_freeze : {k : Stored} → IsNear k → (caller : ℕ) → 0 < length k.buffer
-    → length k.history + 1 + k.open_count ≤ k.places
+    → length k.history + 1 + k.open_count + k.lists.merges_open ≤ k.places
     → IsKept (freezing caller k)
 kept_freeze {k} is caller some enough =
     let r = record_of k in
@@ -258,14 +290,14 @@ kept_freeze {k} is caller some enough =
     let current : AreCurrent (with_event r event) (k.pieces ++ buffered_piece r ∷ []) =
     subst (λ (u : ℕ). AreCurrent (with_event r (freeze caller (next_generation r)
     (frozen k.history + 1) u)) (k.pieces ++ buffered_piece r ∷ [])) numbered
-    (freeze_keeps r is.plain caller
+    (freeze_keeps r is.plain is.held.drawn_before caller
     (omega (arith, numbered, count, fields.frozen_upto_last, some))
     (omega (arith, numbered, count, fields.frozen_upto_last, is.few_buffered))
     k.pieces is.pieces) in
     kept_near (record {
       legal = subst AreLegal is-it legal;
       fields = fields_freeze k caller fields some enough;
-      plain = subst IsPlain is-it (plain_freeze r caller is.plain);
+      plain = subst IsPlain is-it (plain_freeze r caller is.plain is.held.drawn_before);
       pieces = subst (λ (x : Record). AreCurrent x (k.pieces ++ next_piece k ∷ [])) is-it
           (subst (λ (p : PlainPiece). AreCurrent (with_event r event) (k.pieces ++ p ∷ []))
           (piece_is k numbered fields) current);
@@ -291,7 +323,7 @@ abbrev settled : ℕ → Record → Record
 settled caller r = if nat_eq (buffered r) BATCH_OPERATIONS then after_freeze caller r else r
 
 pub freezes : {k : Stored} → IsKept k → (caller : ℕ) → 0 < length k.buffer
-    → length k.history + 1 + k.open_count ≤ k.places
+    → length k.history + 1 + k.open_count + k.lists.merges_open ≤ k.places
     → Leaves (freezing caller k) (after_freeze caller (record_of k))
 freezes {k} kept caller some enough = record {
   kept = kept_freeze (near kept) caller some enough;
@@ -300,7 +332,7 @@ freezes {k} kept caller some enough = record {
 
 pub accepts : {k : Stored} → IsKept k → (caller : ℕ) (operation : PlainOp)
     → k.frozen_count + length k.buffer < MOST_OPERATIONS
-    → length k.history + 2 + k.open_count ≤ k.places
+    → length k.history + 2 + k.open_count + k.lists.merges_open ≤ k.places
     → Leaves (accepting_one caller operation k) (after_accept caller operation (record_of k))
 accepts {k} kept caller operation room enough =
     let k' = accepting caller operation k in

@@ -1,7 +1,7 @@
 -- The current pieces once a generation has its segment, or live docs that know more.
 use Rattle.std.proofs.Common.{◌≡◌, ◌≤◌, ℕ, Bool, true, false, cond}
 use Rattle.std.proofs.Common.{nat_eq, List, [], ◌∷◌, ◌++◌, map, refl}
-use Rattle.std.proofs.Common.{sym, ap, ◌∙◌, subst, arith, Option, Some}
+use Rattle.std.proofs.Common.{sym, ap, ◌∙◌, subst, arith, Option, Some, None}
 use Rattle.std.specs.List.{AllByRecursion}
 use Rattle.std.proofs.lemmas.Bool.Decides.{nat_tests}
 use Rattle.sg_paths.specs.Operations.{PlainNumbered}
@@ -10,19 +10,20 @@ use Rattle.segment.specs.Pieces.{live_docs_or_all, live_docs_at}
 use Rattle.segment.specs.Views.{all_documents}
 use Rattle.index_core.specs.Histories.{HistoryEvent, built}
 use Rattle.index_core.specs.Histories.{live_docs_updated, Record}
-use Rattle.index_core.specs.Histories.{drawn_generation}
 use Rattle.index_core.specs.Records.{with_event, frozen}
-use Rattle.index_core.specs.Records.{begun_merges}
 use Rattle.index_core.specs.Generations.{documents_of, applied, is_built}
 use Rattle.index_core.specs.CurrentPieces.{is_segment, IsFresh, IsPieceOf}
 use Rattle.index_core.specs.HeldGenerations.{RisesFrom}
 use Rattle.index_core.specs.Keeping.{AreCurrent, IsPlain, with_piece, with_segment}
 use Rattle.index_core.specs.Keeping.{with_live_docs}
 use Rattle.index_core.proofs.ListLemmas.{same_number}
-use Rattle.index_core.proofs.HistoryLemmas.{skips, frozen-skip, merges-none}
-use Rattle.index_core.proofs.ReleasedLemmas.{current-unmerged}
-use Rattle.index_core.proofs.GenerationLemmas.{documents_stay, applied_stays, applied_now}
+use Rattle.index_core.proofs.AppliedLemmas.{applied_stay, applied_last}
+use Rattle.index_core.proofs.EventLemmas.{current-skip}
+use Rattle.index_core.proofs.HistoryLemmas.{frozen-skip}
 use Rattle.index_core.proofs.GenerationLemmas.{built_stays, built_other, built_now}
+use Rattle.index_core.proofs.KnownMergeLemmas.{known as known_merges}
+use Rattle.index_core.proofs.MergedPieceLemmas.{none_some}
+use Rattle.index_core.proofs.MergingLemmas.{stay}
 
 -- ---- changing the pieces of one generation
 
@@ -81,17 +82,14 @@ module _ (r : Record) (plain : IsPlain r) (caller g : ℕ) where
   abbrev e-built : HistoryEvent
   e-built = built caller g
 
-  still_unmerged : begun_merges (with_event r e-built) ≡ []
-  still_unmerged = merges-none 0 r.history e-built (λ n. refl) plain.unmerged
-
   abbrev r-built : Record
   r-built = with_event r e-built
 
   stays-built : (x : ℕ) → documents_of r-built x ≡ documents_of r x
-  stays-built x = documents_stay r e-built plain.unmerged still_unmerged x (λ d gens. refl)
+  stays-built x = stay r e-built x (known_merges r plain.merges) tt (none_some x None refl)
 
   applied-built : (x : ℕ) → applied r-built x ≡ applied r x
-  applied-built x = applied_stays r e-built plain.unmerged still_unmerged x refl
+  applied-built x = applied_stay r e-built (known_merges r plain.merges) tt x refl
 
   frozen-built : frozen r-built ≡ frozen r
   frozen-built = frozen-skip r.history e-built refl
@@ -142,9 +140,7 @@ module _ (r : Record) (plain : IsPlain r) (caller g : ℕ) where
       record {
         generations =
             generations ∙ are.generations
-            ∙ current-unmerged r.history plain.unmerged
-            ∙ sym (current-unmerged (r.history ++ e-built ∷ []) still_unmerged
-            ∙ skips drawn_generation r.history e-built refl);
+            ∙ sym (current-skip r.history e-built (λ k. refl) refl refl);
         rising = subst (RisesFrom 1) (sym generations) are.rising;
         each = each_after (IsPieceOf r) (IsPieceOf r-built) g (with_segment documents)
             (this_piece-built documents is) other_piece-built pieces are.each;
@@ -157,14 +153,11 @@ module _ (r : Record) (plain : IsPlain r) (caller g upto : ℕ) where
   abbrev e-lived : HistoryEvent
   e-lived = live_docs_updated caller g upto
 
-  unmerged-lived : begun_merges (with_event r e-lived) ≡ []
-  unmerged-lived = merges-none 0 r.history e-lived (λ n. refl) plain.unmerged
-
   abbrev r-lived : Record
   r-lived = with_event r e-lived
 
   stays-lived : (x : ℕ) → documents_of r-lived x ≡ documents_of r x
-  stays-lived x = documents_stay r e-lived plain.unmerged unmerged-lived x (λ d gens. refl)
+  stays-lived x = stay r e-lived x (known_merges r plain.merges) tt (none_some x None refl)
 
   frozen-lived : frozen r-lived ≡ frozen r
   frozen-lived = frozen-skip r.history e-lived refl
@@ -177,7 +170,7 @@ module _ (r : Record) (plain : IsPlain r) (caller g upto : ℕ) where
         documents = is.documents ∙ sym (stays-lived p.generation);
         applied_through =
             is.applied_through
-            ∙ sym (applied_stays r e-lived plain.unmerged unmerged-lived p.generation
+            ∙ sym (applied_stay r e-lived (known_merges r plain.merges) tt p.generation
             (rw other' refl));
         has_segment = built_stays r e-lived p.generation refl ∙ is.has_segment;
         live_docs = is.live_docs;
@@ -204,7 +197,7 @@ module _ (r : Record) (plain : IsPlain r) (caller g upto : ℕ) where
       record {
         documents = is.documents ∙ sym (stays-lived p.generation);
         applied_through =
-            sym (applied_now r e-lived plain.unmerged unmerged-lived p.generation upto
+            sym (applied_last r e-lived (known_merges r plain.merges) tt p.generation upto
             (rw test refl));
         has_segment = built_stays r e-lived p.generation refl ∙ is.has_segment;
         live_docs = are ∙ ap (live_docs_at r.journal upto)
@@ -227,9 +220,7 @@ module _ (r : Record) (plain : IsPlain r) (caller g upto : ℕ) where
       record {
         generations =
             generations ∙ are.generations
-            ∙ current-unmerged r.history plain.unmerged
-            ∙ sym (current-unmerged (r.history ++ e-lived ∷ []) unmerged-lived
-            ∙ skips drawn_generation r.history e-lived refl);
+            ∙ sym (current-skip r.history e-lived (λ k. refl) refl refl);
         rising = subst (RisesFrom 1) (sym generations) are.rising;
         each = each_after (IsPieceOf r) (IsPieceOf r-lived) g (with_live_docs live_docs upto)
             (this_piece-lived live_docs is has within) other_piece-lived pieces are.each;

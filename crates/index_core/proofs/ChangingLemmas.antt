@@ -23,12 +23,12 @@ use Rattle.index_core.specs.Fields.{Stored, record_of, IsKept}
 use Rattle.index_core.specs.Fields.{noting, building, living}
 use Rattle.index_core.proofs.ListLemmas.{same_number, less_of, both, not_true, in_all, all_more}
 use Rattle.index_core.proofs.ListLemmas.{all_weaker}
-use Rattle.index_core.proofs.HistoryLemmas.{merges-none}
-use Rattle.index_core.proofs.ReleasedLemmas.{current-unmerged}
+use Rattle.index_core.proofs.HeldEventLemmas.{current_drawn}
+use Rattle.index_core.proofs.PlainLemmas.{plain_after, merges_still}
 use Rattle.index_core.proofs.BuiltLemmas.{built_keeps, lived_keeps}
 use Rattle.index_core.proofs.HeldLemmas.{held_quiet}
 use Rattle.index_core.proofs.KeptLemmas.{quiet_built, quiet_lived}
-use Rattle.index_core.proofs.KeptLemmas.{kept_changed, same_views}
+use Rattle.index_core.proofs.KeptLemmas.{kept_changed, same_views, same_lists, same_drawn}
 use Rattle.index_core.proofs.KeptLemmas.{builds_nothing, Leaves}
 
 -- ---- what the pieces tell of a generation
@@ -96,15 +96,14 @@ behind_tells r ps g upto are =
 among_drawn : (r : Record) (g : ℕ) → IsPlain r → is_among g (current r) ≡ true
     → g < next_generation r
 among_drawn r g plain is =
-    in_all (λ x. x < next_generation r) g (drawn r)
-    (ap (is_among g) (sym (current-unmerged r.history plain.unmerged)) ∙ is) plain.drawn_before
+    in_all (λ x. x < next_generation r) g (drawn r) (current_drawn r g is) plain.drawn_before
 
 is_current : (r : Record) (g : ℕ) → is_among g (current r) ≡ true → Contains (current r) g
 is_current r g is = Contains-from_any {eq = nat_eq} same_number g (current r) is
 
 pub builds : {k : Stored} → IsKept k → (caller g : ℕ) (documents : List PlainNumbered)
     → is_unbuilt (record_of k) g ≡ true → documents ≡ documents_of (record_of k) g
-    → length k.history + 1 + k.open_count ≤ k.places
+    → length k.history + 1 + k.open_count + k.lists.merges_open ≤ k.places
     → Leaves (noting (built caller g) (with_piece g (with_segment documents) k.pieces) k)
     (after_built caller g (record_of k))
 builds {k} kept caller g documents is all enough =
@@ -119,20 +118,28 @@ builds {k} kept caller g documents is all enough =
     (all_more (λ x. x < next_generation r) (filter_map built_generation k.history) g
     plain.built_before (among_drawn r g plain tests.0)) in
     record {
-      kept = kept_changed kept e (with_piece g (with_segment documents) k.pieces) k.held
-          k.begun_count
-          k.open_count (is_current r g tests.0, not_true (is_built r g) tests.1) refl refl refl
-          (merges-none 0 k.history e (λ n. refl) plain.unmerged) more
-          (built_keeps r plain caller g k.pieces kept.pieces documents all)
-          (held_quiet r e r.journal k.held (quiet_built caller g) kept.held)
-          (same_views kept.fields.views e refl refl) enough;
+      kept = kept_changed kept e (with_piece g (with_segment documents) k.pieces) k.held k.lists
+          k.drawn_count k.begun_count k.open_count (record {
+            line = (is_current r g tests.0, not_true (is_built r g) tests.1);
+            no_accept = refl;
+            no_freeze = refl;
+            plain = plain_after r e plain refl refl refl
+                (merges_still r e plain.merges (λ n. refl) refl refl tt refl refl) more;
+            drawn_count = same_drawn k e kept.fields refl;
+            few_drawn = kept.fields.few_drawn;
+            pieces = built_keeps r plain caller g k.pieces kept.pieces documents all;
+            held = held_quiet r e r.journal k.held (quiet_built caller g) kept.held;
+            views = same_views kept.fields.views e refl refl;
+            own_lists = same_lists kept.fields.own_lists e refl refl (λ n. refl) refl;
+            room = enough;
+          });
       record_is = sym (rw is refl);
     }
 
 pub lives : {k : Stored} → IsKept k → (caller g upto : ℕ) (live_docs : List Bool)
     → is_behind (record_of k) g upto ≡ true → upto ≤ frozen (record_of k)
     → live_docs ≡ live_docs_at (record_of k).journal upto (documents_of (record_of k) g)
-    → length k.history + 1 + k.open_count ≤ k.places
+    → length k.history + 1 + k.open_count + k.lists.merges_open ≤ k.places
     → Leaves (noting (live_docs_updated caller g upto)
     (with_piece g (with_live_docs live_docs upto) k.pieces) k)
     (after_lived caller g upto (record_of k))
@@ -144,13 +151,22 @@ lives {k} kept caller g upto live_docs is within all enough =
     let more = both (is_built r g) (nat_lt (applied r g) upto) tests.1 in
     record {
       kept = kept_changed kept e (with_piece g (with_live_docs live_docs upto) k.pieces) k.held
-          k.begun_count k.open_count
-          (is_current r g tests.0, more.0, less_of (applied r g) upto more.1, within)
-          refl refl refl (merges-none 0 k.history e (λ n. refl) plain.unmerged)
-          (builds_nothing k e plain refl)
-          (lived_keeps r plain caller g upto k.pieces kept.pieces live_docs more.0 within all)
-          (held_quiet r e r.journal k.held (quiet_lived caller g upto) kept.held)
-          (same_views kept.fields.views e refl refl) enough;
+          k.lists k.drawn_count k.begun_count k.open_count (record {
+            line = (is_current r g tests.0, more.0, less_of (applied r g) upto more.1, within);
+            no_accept = refl;
+            no_freeze = refl;
+            plain = plain_after r e plain refl refl refl
+                (merges_still r e plain.merges (λ n. refl) refl refl tt refl refl)
+                (builds_nothing k e plain refl);
+            drawn_count = same_drawn k e kept.fields refl;
+            few_drawn = kept.fields.few_drawn;
+            pieces =
+                lived_keeps r plain caller g upto k.pieces kept.pieces live_docs more.0 within all;
+            held = held_quiet r e r.journal k.held (quiet_lived caller g upto) kept.held;
+            views = same_views kept.fields.views e refl refl;
+            own_lists = same_lists kept.fields.own_lists e refl refl (λ n. refl) refl;
+            room = enough;
+          });
       record_is = sym (rw is refl);
     }
 
@@ -158,7 +174,7 @@ lives {k} kept caller g upto live_docs is within all enough =
 
 pub builds_if : {k : Stored} → IsKept k → (caller g : ℕ) (documents : List PlainNumbered)
     → (is_unbuilt (record_of k) g ≡ true → documents ≡ documents_of (record_of k) g)
-    → length k.history + 1 + k.open_count ≤ k.places
+    → length k.history + 1 + k.open_count + k.lists.merges_open ≤ k.places
     → Leaves (building caller g documents k) (after_built caller g (record_of k))
 builds_if {k} kept caller g documents are enough =
     by_cases (has_unbuilt g k.pieces) (sym (unbuilt_tells (record_of k) k.pieces g kept.pieces))
@@ -174,7 +190,7 @@ pub lives_if : {k : Stored} → IsKept k → (caller g upto : ℕ) (live_docs : 
     → upto ≤ frozen (record_of k)
     → (is_behind (record_of k) g upto ≡ true
     → live_docs ≡ live_docs_at (record_of k).journal upto (documents_of (record_of k) g))
-    → length k.history + 1 + k.open_count ≤ k.places
+    → length k.history + 1 + k.open_count + k.lists.merges_open ≤ k.places
     → Leaves (living caller g live_docs upto k) (after_lived caller g upto (record_of k))
 lives_if {k} kept caller g upto live_docs within are enough =
     by_cases (has_behind g upto k.pieces)

@@ -141,10 +141,6 @@ module _ (in_use in_use' : ℕ → Bool) (count : ℕ → ℕ) (g : ℕ) (unheld
     holders_is = is.holders_is;
   }
 
-  or_false : (b : Bool) → (b || false) ≡ b
-  or_false true = refl
-  or_false false = refl
-
   turned : (m n : ℕ) → nat_eq m n ≡ nat_eq n m
   turned m n = grind (arith, nat_tests)
 
@@ -170,7 +166,8 @@ module _ (in_use in_use' : ℕ → Bool) (count : ℕ → ℕ) (g : ℕ) (unheld
       by_test true later = (all.0, later)
       by_test false later = (new_entry, all)
 
-  held_with : (n : ℕ) (hs : List Held) → is_held (with_current g hs) n ≡ (nat_eq g n || is_held hs n)
+  held_with : (n : ℕ) (hs : List Held)
+      → is_held (with_current g hs) n ≡ (nat_eq g n || is_held hs n)
   held_with n [] = refl
   held_with n (h ∷ hs) = by_test (nat_lt h.generation g) (held_with n hs)
     where

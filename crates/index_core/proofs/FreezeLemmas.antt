@@ -1,16 +1,15 @@
 -- The current pieces once what is buffered is frozen.
 use Rattle.std.proofs.Common.{◌≡◌, ◌≤◌, ◌<◌, ◌+◌, ◌-◌, ℕ, Bool, true, false, cond, not}
-use Rattle.std.proofs.Common.{nat_eq, ◌&&◌, ◌||◌, List, [], ◌∷◌, ◌++◌, length, map, take, drop}
+use Rattle.std.proofs.Common.{nat_eq, ◌&&◌, List, [], ◌∷◌, ◌++◌, length, map, take, drop}
 use Rattle.std.proofs.Common.{refl}
 use Rattle.std.proofs.Common.{sym, ap, ◌∙◌, subst, arith}
-use Rattle.std.specs.Prelude.{filter, fold, nat_le}
+use Rattle.std.specs.Prelude.{filter, nat_le}
 use Rattle.std.specs.List.{AllByRecursion, filter_map, list_any}
 use Rattle.std.proofs.lemmas.Bool.Decides.{nat_tests}
 use Rattle.std.proofs.lemmas.List.{append-nil, take_all}
-use Rattle.std.proofs.lemmas.List.{take-append-drop, length-take, length-drop, drop-append-le}
+use Rattle.std.proofs.lemmas.List.{take-append-drop, length-take, length-drop}
 use Rattle.std.proofs.lemmas.List.{drop_all, map-append}
-use Rattle.std.proofs.lemmas.List.Elements.{filter-append, filter_map-append, filter_agree}
-use Rattle.std.proofs.lemmas.List.Folds.{list_any-append}
+use Rattle.std.proofs.lemmas.List.Elements.{filter-append, filter_agree}
 use Rattle.std.proofs.lemmas.Grind.{flat_map-append}
 use Rattle.sg_paths.specs.Operations.{PlainOp, adds, updates, deletes, PlainNumbered}
 use Rattle.sg_paths.specs.Operations.{documents_from}
@@ -23,22 +22,25 @@ use Rattle.segment.specs.Views.{all_documents}
 use Rattle.index_core.specs.declared.limits.TheConstants.{BATCH_OPERATIONS}
 use Rattle.index_core.specs.Histories.{HistoryEvent, freeze}
 use Rattle.index_core.specs.Histories.{Record, is_among}
-use Rattle.index_core.specs.Histories.{drawn_generation, built_generation}
-use Rattle.index_core.specs.Records.{with_event, frozen, drawn, next_generation}
-use Rattle.index_core.specs.Records.{begun_merges}
-use Rattle.index_core.specs.Generations.{documents_of}
-use Rattle.index_core.specs.Generations.{holders_after}
+use Rattle.index_core.specs.Histories.{built_generation}
+use Rattle.index_core.specs.Histories.{replaced}
+use Rattle.index_core.specs.Records.{with_event, frozen, drawn, current, next_generation}
+use Rattle.index_core.specs.Generations.{documents_of, holders_of}
 use Rattle.index_core.specs.CurrentPieces.{IsPieceOf}
+use Rattle.index_core.specs.HeldEvents.{AreDrawn}
 use Rattle.index_core.specs.HeldGenerations.{RisesFrom}
 use Rattle.index_core.specs.Keeping.{AreCurrent, IsPlain}
 use Rattle.index_core.specs.Keeping.{buffered_piece}
-use Rattle.index_core.proofs.ListLemmas.{take_shorter, filter_inside, all_weaker}
+use Rattle.index_core.proofs.ListLemmas.{filter_inside, all_weaker}
 use Rattle.index_core.proofs.ListLemmas.{all_more, all_pairs, same_filtered, same_more}
-use Rattle.index_core.proofs.HistoryLemmas.{frozen-more, merges-none}
-use Rattle.index_core.proofs.ReleasedLemmas.{current-unmerged}
-use Rattle.index_core.proofs.GenerationLemmas.{documents_stay, applied_stays, applied_now}
-use Rattle.index_core.proofs.GenerationLemmas.{built_stays, among_other}
-use Rattle.index_core.proofs.GenerationLemmas.{among_itself, not_held, holders_next}
+use Rattle.index_core.proofs.AppliedLemmas.{applied_stay, applied_last}
+use Rattle.index_core.proofs.HeldEventLemmas.{undrawn_not_replaced, current-freeze}
+use Rattle.index_core.proofs.ListLemmas.{all_filter}
+use Rattle.index_core.proofs.HistoryLemmas.{frozen-more}
+use Rattle.index_core.proofs.GenerationLemmas.{built_stays, among_itself}
+use Rattle.index_core.proofs.KnownMergeLemmas.{known as known_merges}
+use Rattle.index_core.proofs.LivePieceLemmas.{deleted_later}
+use Rattle.index_core.proofs.MergingLemmas.{holders_next, stay, not_held}
 use Rattle.index_core.proofs.RangeLemmas.{last_documents}
 
 pub rises_more : (m n : ℕ) (gs : List ℕ) → RisesFrom m gs → AllByRecursion (λ g. g < n) gs → m ≤ n
@@ -77,42 +79,7 @@ all_live journal n m (updates d ∷ ops) less within =
     ∙ ap (λ (bs : List Bool). not (is_deleted journal n (record { seq = m; document = d })) ∷ bs)
     (all_live journal n (m + 1) ops (omega (arith, less)) within)
 
--- what is deleted stays deleted
-pub deleted_later : (journal : List PlainOp) (n u : ℕ) (d : PlainNumbered) → n ≤ u
-    → u ≤ length journal → not (is_deleted journal u d) ≡ true → not (is_deleted journal n d) ≡ true
-deleted_later journal n u d within enough live =
-    let del = deletes_id d.document.id in
-    let first = take n journal in
-    let rest = drop n (take u journal) in
-    let split : take u journal ≡ first ++ rest =
-    sym (take-append-drop n (take u journal))
-    ∙ ap (λ (ops : List PlainOp). ops ++ rest) (take_shorter n u journal within) in
-    by_place (nat_le d.seq (length first)) refl
-    (subst (λ (ops : List PlainOp). not (list_any del (drop d.seq ops)) ≡ true) split live)
-  where
-    by_place : (b : Bool) → nat_le d.seq (length (take n journal)) ≡ b
-        → not (list_any (deletes_id d.document.id)
-        (drop d.seq (take n journal ++ drop n (take u journal)))) ≡ true
-        → not (is_deleted journal n d) ≡ true
-    by_place true is live' =
-        let e : drop d.seq (take n journal ++ drop n (take u journal))
-        ≡ drop d.seq (take n journal) ++ drop n (take u journal) =
-        drop-append-le d.seq (take n journal) (drop n (take u journal))
-        (grind (arith, nat_tests, is)) in
-        not_first (list_any (deletes_id d.document.id) (drop d.seq (take n journal)))
-        (list_any (deletes_id d.document.id) (drop n (take u journal)))
-        (sym (ap not (ap (list_any (deletes_id d.document.id)) e
-        ∙ list_any-append (deletes_id d.document.id) (drop d.seq (take n journal))
-        (drop n (take u journal)))) ∙ live')
-      where
-        not_first : (a b : Bool) → not (a || b) ≡ true → not a ≡ true
-        not_first true b h = h
-        not_first false b h = refl
-    by_place false is live' =
-        ap not (ap (list_any (deletes_id d.document.id))
-        (drop_all d.seq (take n journal) (grind (arith, nat_tests, is))))
-
-module _ (r : Record) (plain : IsPlain r) (caller : ℕ)
+module _ (r : Record) (plain : IsPlain r) (were : AreDrawn r) (caller : ℕ)
     (some : frozen r < length r.journal)
     (few : length r.journal ≤ frozen r + BATCH_OPERATIONS) where
   abbrev n : ℕ
@@ -130,42 +97,31 @@ module _ (r : Record) (plain : IsPlain r) (caller : ℕ)
   abbrev r-freeze : Record
   r-freeze = with_event r e-freeze
 
-  unmerged-freeze : begun_merges (with_event r e-freeze) ≡ []
-  unmerged-freeze = merges-none 0 r.history e-freeze (λ m. refl) plain.unmerged
-
   frozen-freeze : frozen r-freeze ≡ u
   frozen-freeze = frozen-more r.history caller g (n + 1) u
 
-  other_held : (x : ℕ) (b : Bool) (gens : List ℕ) → nat_eq x g ≡ false
-      → is_among x (cond b (gens ++ g ∷ []) gens) ≡ is_among x gens
-  other_held x true gens other = among_other x g gens other
-  other_held x false gens other = refl
-
   stays-freeze : (x : ℕ) → nat_eq x g ≡ false → documents_of r-freeze x ≡ documents_of r x
   stays-freeze x other =
-      documents_stay r e-freeze plain.unmerged unmerged-freeze x
-      (λ d gens. other_held x (nat_le (n + 1) d.seq && nat_le d.seq u) gens other)
+      stay r e-freeze x (known_merges r plain.merges) tt
+      (λ same. let one : g ≡ x = cc in
+      let no : nat_eq x g ≡ true = same_test x g one in
+      let wrong : true ≡ false = sym no ∙ other in absurd cc)
+    where
+      same_test : (m n : ℕ) → n ≡ m → nat_eq m n ≡ true
+      same_test m n is = grind (arith, nat_tests, is)
 
   new_held : (b : Bool) (gens : List ℕ) → is_among g gens ≡ false
       → is_among g (cond b (gens ++ g ∷ []) gens) ≡ b
   new_held true gens out = among_itself g gens
   new_held false gens out = out
 
-  others : (xs : List ℕ) → AllByRecursion (λ x. x < g) xs
-      → AllByRecursion (λ x. nat_eq g x ≡ false) xs
-  others [] all = tt
-  others (x ∷ xs) all =
-      let less : x < g = all.0 in (grind (arith, nat_tests, less), others xs all.1)
-
   documents-freeze : documents_of r-freeze g ≡ documents_from (n + 1) (drop n r.journal)
   documents-freeze =
-      filter_agree (λ d. is_among g (fold (holders_after r-freeze d) [] r-freeze.history))
+      filter_agree (λ d. is_among g (holders_of r-freeze d))
       (λ d. nat_le (n + 1) d.seq && nat_le d.seq u)
-      (λ d. ap (is_among g) (holders_next r e-freeze plain.unmerged unmerged-freeze d)
-      ∙ new_held (nat_le (n + 1) d.seq && nat_le d.seq u)
-      (fold (holders_after r d) [] r.history)
-      (not_held r plain.unmerged g d r.history [] (others (drawn r) plain.drawn_before)
-      refl)) (documents_from 1 r.journal)
+      (λ d. ap (is_among g) (holders_next r e-freeze (known_merges r plain.merges) tt d)
+      ∙ new_held (nat_le (n + 1) d.seq && nat_le d.seq u) (holders_of r d)
+      (not_held r g d plain.drawn_before)) (documents_from 1 r.journal)
       ∙ last_documents n r.journal plain.frozen_within
 
   old_piece : (p : PlainPiece) → IsPieceOf r p × (p.generation < g) → IsPieceOf r-freeze p
@@ -176,7 +132,7 @@ module _ (r : Record) (plain : IsPlain r) (caller : ℕ)
         documents = is.documents ∙ sym (stays-freeze p.generation other);
         applied_through =
             is.applied_through
-            ∙ sym (applied_stays r e-freeze plain.unmerged unmerged-freeze p.generation
+            ∙ sym (applied_stay r e-freeze (known_merges r plain.merges) tt p.generation
             (rw other' refl));
         has_segment = built_stays r e-freeze p.generation refl ∙ is.has_segment;
         live_docs = is.live_docs;
@@ -186,12 +142,17 @@ module _ (r : Record) (plain : IsPlain r) (caller : ℕ)
         buildable = is.buildable;
       }
 
-  unbuilt_yet : (xs : List ℕ) → AllByRecursion (λ x. x < g) xs → is_among g xs ≡ false
-  unbuilt_yet [] all = refl
-  unbuilt_yet (x ∷ xs) all =
+  not_among : (xs : List ℕ) → AllByRecursion (λ x. x < g) xs → is_among g xs ≡ false
+  not_among [] all = refl
+  not_among (x ∷ xs) all =
       let less : x < g = all.0 in
       let other : nat_eq g x ≡ false = grind (arith, nat_tests, less) in
-      rw other (unbuilt_yet xs all.1)
+      rw other (not_among xs all.1)
+
+  current-more : current r-freeze ≡ current r ++ g ∷ []
+  current-more =
+      current-freeze r caller g (n + 1) u
+      (undrawn_not_replaced r were g (not_among (drawn r) plain.drawn_before))
 
   new_piece : IsPieceOf r-freeze (buffered_piece r)
   new_piece =
@@ -201,11 +162,11 @@ module _ (r : Record) (plain : IsPlain r) (caller : ℕ)
       record {
         documents = sym documents-freeze;
         applied_through =
-            sym (applied_now r e-freeze plain.unmerged unmerged-freeze g (n + 1 - 1)
+            sym (applied_last r e-freeze (known_merges r plain.merges) tt g (n + 1 - 1)
             (rw test refl) ∙ back);
         has_segment =
             built_stays r e-freeze g refl
-            ∙ unbuilt_yet (filter_map built_generation r.history) plain.built_before;
+            ∙ not_among (filter_map built_generation r.history) plain.built_before;
         live_docs = all_live r.journal n (n + 1) (drop n r.journal) (omega arith)
             plain.frozen_within;
         fresh = refl;
@@ -221,9 +182,10 @@ module _ (r : Record) (plain : IsPlain r) (caller : ℕ)
   pub freeze_keeps : (pieces : List PlainPiece) → AreCurrent r pieces
       → AreCurrent r-freeze (pieces ++ buffered_piece r ∷ [])
   freeze_keeps pieces are =
-      let generations = are.generations ∙ current-unmerged r.history plain.unmerged in
       let before : AllByRecursion (λ x. x < g) (map (λ p. p.generation) pieces) =
-      subst (AllByRecursion (λ x. x < g)) (sym generations) plain.drawn_before in
+      subst (AllByRecursion (λ x. x < g)) (sym are.generations)
+      (all_filter (λ x. x < g) (λ x. not (is_among x (replaced r.history))) (drawn r)
+      plain.drawn_before) in
       let all = map-append (λ (p : PlainPiece). p.generation) pieces (buffered_piece r ∷ []) in
       let first = documents_from 1 (take n r.journal) in
       let last = documents_from (n + 1) (drop n r.journal) in
@@ -241,16 +203,14 @@ module _ (r : Record) (plain : IsPlain r) (caller : ℕ)
       let inside : (ds : List PlainNumbered)
       → filter (live u) (filter (live n) ds) ≡ filter (live u) ds =
       λ ds. filter_inside (live u) (live n) ds
-      (λ d h. deleted_later r.journal n u d plain.frozen_within (omega arith) h) in
+      (λ d h. deleted_later r.journal n u d plain.frozen_within h) in
       let same : HaveSameItems (filter (live u) (all_documents pieces)) (filter (live u) first) =
       λ f. ap (total_of f) (sym (inside (all_documents pieces)))
       ∙ same_filtered (live u) (filter (live n) (all_documents pieces)) (filter (live n) first)
       are.live f ∙ ap (total_of f) (inside first) in
       record {
         generations =
-            all ∙ ap (λ (gs : List ℕ). gs ++ g ∷ []) generations
-            ∙ sym (current-unmerged (r.history ++ e-freeze ∷ []) unmerged-freeze
-            ∙ filter_map-append drawn_generation r.history (e-freeze ∷ []));
+            all ∙ ap (λ (gs : List ℕ). gs ++ g ∷ []) are.generations ∙ sym current-more;
         rising = rw all (rises_more 1 g (map (λ p. p.generation) pieces) are.rising before
             (omega arith));
         each = all_more (IsPieceOf r-freeze) pieces (buffered_piece r)

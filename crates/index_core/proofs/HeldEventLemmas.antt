@@ -23,6 +23,7 @@ use Rattle.index_core.proofs.EventLemmas.{frozen_after, merges-more, current-ski
 use Rattle.index_core.proofs.EventLemmas.{open_merges-skip, replaced-skip}
 use Rattle.index_core.proofs.HoldingLemmas.{count_with}
 use Rattle.index_core.proofs.HoldsLemmas.{holds_same, holds_current, holds_held}
+use Rattle.index_core.proofs.ListLemmas.{all_weaker, all_filter, all_both}
 use Rattle.index_core.proofs.RisingLemmas.{among-filter, all_among}
 use Rattle.index_core.proofs.ViewLemmas.{open_views-skip, open_views-begin}
 
@@ -41,16 +42,6 @@ any_drawn r gens g (x ∷ xs) all is =
     by_test true there again e =
         all_among (λ n. is_among n (drawn r) ≡ true) g (gens x) all.0 there
     by_test false there again e = again e
-
-all_filter : {X : Type 0} (P : X → Type 0) (p : X → Bool) (xs : List X) → AllByRecursion P xs
-    → AllByRecursion P (filter p xs)
-all_filter P p [] all = tt
-all_filter P p (x ∷ xs) all = by_test (p x) (all_filter P p xs all.1)
-  where
-    by_test : (b : Bool) → AllByRecursion P (filter p xs)
-        → AllByRecursion P (cond b (x ∷ filter p xs) (filter p xs))
-    by_test true later = (all.0, later)
-    by_test false later = later
 
 pub current_drawn : (r : Record) (g : ℕ) → is_among g (current r) ≡ true
     → is_among g (drawn r) ≡ true
@@ -93,7 +84,7 @@ undrawn_unreferenced r are g out = by_test (is_referenced r g) refl
     by_test false is = refl
     by_test true is = let no : true ≡ false = sym (referenced_drawn r are g is) ∙ out in cc
 
-among_any : (g : ℕ) (ms : List Merge) → is_among g (flat_map (λ m. m.generations) ms)
+pub among_any : (g : ℕ) (ms : List Merge) → is_among g (flat_map (λ m. m.generations) ms)
     ≡ list_any (λ m. is_among g m.generations) ms
 among_any g [] = refl
 among_any g (m ∷ ms) =
@@ -131,20 +122,10 @@ holds-quiet r e journal quiet hs are =
 
 -- ---- generations stay drawn
 
-all_more : {X : Type 0} (P : X → Type 0) (xs ys : List X) → AllByRecursion P xs
-    → AllByRecursion P ys → AllByRecursion P (xs ++ ys)
-all_more P [] ys all more = more
-all_more P (x ∷ xs) ys all more = (all.0, all_more P xs ys all.1 more)
-
-all_map : {X : Type 0} (P Q : X → Type 0) → ((x : X) → P x → Q x) → (xs : List X)
-    → AllByRecursion P xs → AllByRecursion Q xs
-all_map P Q f [] all = tt
-all_map P Q f (x ∷ xs) all = (f x all.0, all_map P Q f xs all.1)
-
 were_drawn_still : (r : Record) (e : HistoryEvent) (journal : List PlainOp) (gens : List ℕ)
     → WereDrawn r gens → WereDrawn (with_both r e journal) gens
 were_drawn_still r e journal gens were =
-    all_map (λ g. is_among g (drawn r) ≡ true)
+    all_weaker (λ g. is_among g (drawn r) ≡ true)
     (λ g. is_among g (drawn (with_both r e journal)) ≡ true)
     (λ g there.
     ap (is_among g) (filter_map-append drawn_generation r.history (e ∷ []))
@@ -157,20 +138,20 @@ drawn_still r e journal are begins = record {
   views = subst (λ (vs : List View).
       AllByRecursion (λ v. WereDrawn (with_both r e journal) v.generations) vs)
       (sym (filter_map-append begun_view r.history (e ∷ [])))
-      (all_map (λ v. WereDrawn r v.generations)
+      (all_weaker (λ v. WereDrawn r v.generations)
       (λ v. WereDrawn (with_both r e journal) v.generations)
       (λ v. were_drawn_still r e journal v.generations)
       (events.begun_views r.history ++ filter_map begun_view (e ∷ []))
-      (all_more (λ v. WereDrawn r v.generations) (events.begun_views r.history)
+      (all_both (λ v. WereDrawn r v.generations) (events.begun_views r.history)
       (filter_map begun_view (e ∷ [])) are.views begins.view));
   merges = subst (λ (ms : List Merge).
       AllByRecursion (λ m. WereDrawn (with_both r e journal) m.generations) ms)
       (sym (merges-more 0 r.history e))
-      (all_map (λ m. WereDrawn r m.generations)
+      (all_weaker (λ m. WereDrawn r m.generations)
       (λ m. WereDrawn (with_both r e journal) m.generations)
       (λ m. were_drawn_still r e journal m.generations)
       (begun_merges r ++ merges_from (frozen_after 0 r.history) (e ∷ []))
-      (all_more (λ m. WereDrawn r m.generations) (begun_merges r)
+      (all_both (λ m. WereDrawn r m.generations) (begun_merges r)
       (merges_from (frozen_after 0 r.history) (e ∷ [])) are.merges
       (begins.merge (frozen_after 0 r.history))));
 }

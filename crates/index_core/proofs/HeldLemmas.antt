@@ -117,7 +117,7 @@ alone p first (w ∷ ws) v numbered there =
               )
         ])
 
-both_parts : {X : Type 0} (t : X → Bool) (xs : List X)
+pub both_parts : {X : Type 0} (t : X → Bool) (xs : List X)
     → length (filter t xs) + length (filter (λ x. not (t x)) xs) ≡ length xs
 both_parts t [] = omega arith
 both_parts t (x ∷ xs) = by_cases (t x) (both_parts t xs)
@@ -144,7 +144,7 @@ open_once history v numbered there =
 
 -- ---- the events
 
-nothing_begun : (r : Record) (e : HistoryEvent) → begun_view e ≡ None
+pub nothing_begun : (r : Record) (e : HistoryEvent) → begun_view e ≡ None
     → ((n : ℕ) → merges_from n (e ∷ []) ≡ []) → BeginsDrawn r e
 nothing_begun r e no-view no-merge = record {
   view = rw no-view tt;
@@ -162,7 +162,7 @@ held_quiet r e journal hs quiet are = record {
   views_rise = rw (skips begun_view r.history e quiet.begins) are.views_rise;
 }
 
-undrawn : (g : ℕ) (xs : List ℕ) → AllByRecursion (λ x. x < g) xs → is_among g xs ≡ false
+pub undrawn : (g : ℕ) (xs : List ℕ) → AllByRecursion (λ x. x < g) xs → is_among g xs ≡ false
 undrawn g [] all = refl
 undrawn g (x ∷ xs) all =
     let here : x < g = all.0 in
@@ -217,18 +217,19 @@ held_begin r v hs new same rising few are =
     )
 
 -- what a view's end asks of its generations, and leaves
-pub record Ended (r : Record) (hs : List Held) (caller : ℕ) (v : View) : Type 0 where
+pub record Ended (r : Record) (hs : List Held) (caller : ℕ) (v : View) (gone : List ℕ)
+    : Type 0 where
   pub rising : IsStrictlyIncreasing v.generations
   pub holders : All (HasHolder hs) v.generations
-  pub held : AreHeld (with_event r (view_end caller v.view [])) (after_release v.generations hs)
+  pub held : AreHeld (with_event r (view_end caller v.view gone)) (after_release v.generations hs)
   pub freed : given_up hs (after_release v.generations hs)
-      ≡ released r (view_end caller v.view [])
+      ≡ released r (view_end caller v.view gone)
 
-pub held_end : (r : Record) (caller : ℕ) (v : View) (hs : List Held)
+pub held_end : (r : Record) (caller : ℕ) (v : View) (gone : List ℕ) (hs : List Held)
     → AreViewsFrom 1 (events.begun_views r.history) → Contains (open_views r) v → AreHeld r hs
-    → Ended r hs caller v
-held_end r caller v hs numbered there are =
-    let e = view_end caller v.view [] in
+    → Ended r hs caller v gone
+held_end r caller v gone hs numbered there are =
+    let e = view_end caller v.view gone in
     let still : View → Bool = λ w. not (is_among w.view (filter_map ended_view r.history)) in
     let were : WereDrawn r v.generations =
     in_list (λ w. WereDrawn r w.generations) v (open_views r)
@@ -238,7 +239,7 @@ held_end r caller v hs numbered there are =
     in_list (λ w. RisesFrom 0 w.generations) v (open_views r)
     (all_kept (λ w. RisesFrom 0 w.generations) still (events.begun_views r.history)
     are.views_rise) there in
-    let after = ended_releases r hs caller v [] (open_once r.history v numbered there) were
+    let after = ended_releases r hs caller v gone (open_once r.history v numbered there) were
     are.drawn_rise are.rise are.counts in
     record {
       rising = increasing 0 v.generations rises;

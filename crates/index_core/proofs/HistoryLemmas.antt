@@ -5,10 +5,9 @@ use Rattle.std.specs.List.{filter_map}
 use Rattle.std.proofs.lemmas.List.{append-nil, length-append, take-append-drop}
 use Rattle.std.proofs.lemmas.List.Elements.{filter_map-append}
 use Rattle.std.proofs.lemmas.List.Sums.{fold-append}
-use Rattle.index_core.specs.Histories.{HistoryEvent, accept, freeze, begin, built}
-use Rattle.index_core.specs.Histories.{live_docs_updated, merge_begin, merge_end, merge_drop}
-use Rattle.index_core.specs.Histories.{view_end, last_of, accepted_number, frozen_upto, accepted}
-use Rattle.index_core.specs.Histories.{frozen, merges_from}
+use Rattle.index_core.specs.Histories.{HistoryEvent, accept, freeze}
+use Rattle.index_core.specs.Histories.{last_of, accepted_number, frozen_upto, accepted}
+use Rattle.index_core.specs.Histories.{frozen}
 
 -- an event that gives nothing leaves what the events give
 pub skips : {X : Type 0} (f : HistoryEvent → Option X)
@@ -54,18 +53,3 @@ pub frozen-more : (history : List HistoryEvent) (caller generation from upto : �
 frozen-more history caller generation from upto =
     ap last_of (filter_map-append frozen_upto history (freeze caller generation from upto ∷ []))
     ∙ fold-append (λ _ n. n) 0 (filter_map frozen_upto history) (upto ∷ [])
-
--- without a merge before, and with an event that begins none, there is none after
-pub merges-none : (n : ℕ) (history : List HistoryEvent) (event : HistoryEvent)
-    → ((k : ℕ) → merges_from k (event ∷ []) ≡ []) → merges_from n history ≡ []
-    → merges_from n (history ++ event ∷ []) ≡ []
-merges-none n [] event none before = none n
-merges-none n (accept c s ∷ h) event none before = merges-none n h event none before
-merges-none n (freeze c g f u ∷ h) event none before = merges-none u h event none before
-merges-none n (begin c v u gs ∷ h) event none before = merges-none n h event none before
-merges-none n (built c g ∷ h) event none before = merges-none n h event none before
-merges-none n (live_docs_updated c g a ∷ h) event none before = merges-none n h event none before
-merges-none n (merge_begin c m gs ∷ h) event none before = (cc)
-merges-none n (merge_end c m i r ∷ h) event none before = merges-none n h event none before
-merges-none n (merge_drop c m ∷ h) event none before = merges-none n h event none before
-merges-none n (view_end c v r ∷ h) event none before = merges-none n h event none before

@@ -42,7 +42,8 @@ module _ {X : Type 0} (number : X → ℕ) (x : X) where
       → AllByRecursion (λ y. nat_eq (number y) (number x) ≡ true → y ≡ x) xs
       → length (filter t xs) ≡ length (filter t (others xs)) + cond (t x) (same xs) 0
   count_split t [] only = no_more (t x)
-  count_split t (y ∷ ys) only = by_test (nat_eq (number y) (number x)) refl (count_split t ys only.1)
+  count_split t (y ∷ ys) only =
+      by_test (nat_eq (number y) (number x)) refl (count_split t ys only.1)
     where
       by_test : (b : Bool) → nat_eq (number y) (number x) ≡ b
           → length (filter t ys) ≡ length (filter t (others ys)) + cond (t x) (same ys) 0

@@ -48,8 +48,8 @@ pub holds_same : (r r' : Record) → ((g : ℕ) → in_use r' g ≡ in_use r g)
     → ((g : ℕ) → holder_count r' g ≡ holder_count r g) → (hs : List Held) → AreHolds r hs
     → AreHolds r' hs
 holds_same r r' same agree hs are =
-    holds r' hs (counted_agree (in_use r) (in_use r') (holder_count r) (holder_count r') same agree hs
-    (counted r hs are))
+    holds r' hs (counted_agree (in_use r) (in_use r') (holder_count r) (holder_count r') same agree
+    hs (counted r hs are))
 
 -- ---- a generation more
 

@@ -47,7 +47,7 @@ first_same r last journal k numbered same k-at-most =
     rw events (rw operations refl)
 
 -- all events are the whole record
-first_all : (r : Record) → length r.journal ≡ accepted r.history
+pub first_all : (r : Record) → length r.journal ≡ accepted r.history
     → first_events (length r.history) r ≡ r
 first_all r numbered =
     let events : take (length r.history) r.history ≡ r.history =

@@ -11,6 +11,7 @@ use Rattle.segment.specs.Pieces.{PlainPiece, piece_documents}
 use Rattle.segment.specs.Views.{all_documents}
 use Rattle.index_core.specs.Histories.{is_among}
 use Rattle.index_core.specs.EndedMerges.{MergedPiecesKeepLiveDocuments}
+use Rattle.index_core.proofs.ListLemmas.{filter_inside, passing, total_of-filter, total_of-append}
 
 -- ---- what is deleted stays deleted
 
@@ -41,38 +42,7 @@ deleted_later journal n u d less live =
     by_test true is =
         sym (ap not (met_later (deletes_id d.document.id) d.seq n u journal less is)) ∙ live
 
-filter_inside : {X : Type 0} (p q : X → Bool) (xs : List X)
-    → ((x : X) → p x ≡ true → q x ≡ true) → filter p (filter q xs) ≡ filter p xs
-filter_inside p q [] h = refl
-filter_inside p q (x ∷ xs) h = by_cases (p x) (q x) refl refl (filter_inside p q xs h)
-  where
-    by_cases : (b c : Bool) → p x ≡ b → q x ≡ c → filter p (filter q xs) ≡ filter p xs
-        → filter p (filter q (x ∷ xs)) ≡ filter p (x ∷ xs)
-    by_cases b true pb qb e = rw qb (ap (λ zs. cond (p x) (x ∷ zs) zs) e)
-    by_cases false false pb qb e = rw qb (rw pb e)
-    by_cases true false pb qb e = let no : q x ≡ true = h x pb in cc
-
 -- ---- sums
-
--- what is summed over what passes a test
-abbrev pub passing : (f : PlainNumbered → ℕ) (p : PlainNumbered → Bool) → PlainNumbered → ℕ
-passing f p d = cond (p d) (f d) 0
-
-pub total_filter : (f : PlainNumbered → ℕ) (p : PlainNumbered → Bool) (ds : List PlainNumbered)
-    → total_of f (filter p ds) ≡ total_of (passing f p) ds
-total_filter f p [] = refl
-total_filter f p (d ∷ ds) = by_cases (p d) (total_filter f p ds)
-  where
-    by_cases : (b : Bool) → total_of f (filter p ds) ≡ total_of (passing f p) ds
-        → total_of f (cond b (d ∷ filter p ds) (filter p ds))
-        ≡ cond b (f d) 0 + total_of (passing f p) ds
-    by_cases true e = ap (λ (n : ℕ). f d + n) e
-    by_cases false e = omega (arith, e)
-
-pub total_append : (f : PlainNumbered → ℕ) (xs ys : List PlainNumbered)
-    → total_of f (xs ++ ys) ≡ total_of f xs + total_of f ys
-total_append f [] ys = omega arith
-total_append f (x ∷ xs) ys = let e = total_append f xs ys in omega (arith, e)
 
 -- documents of pieces, split by a test of pieces
 split_total : (t : PlainPiece → Bool) (f : PlainNumbered → ℕ) (ps : List PlainPiece)
@@ -91,12 +61,13 @@ split_total t f (p ∷ ps) = by_test (t p) (split_total t f ps)
         (filter (λ q. not (t q)) ps)))
         + total_of f (all_documents (cond b (p ∷ filter t ps) (filter t ps)))
     by_test true e =
-        let h = total_append f (piece_documents p) (all_documents ps) in
-        let k = total_append f (piece_documents p) (all_documents (filter t ps)) in
+        let h = total_of-append f (piece_documents p) (all_documents ps) in
+        let k = total_of-append f (piece_documents p) (all_documents (filter t ps)) in
         omega (arith, e, h, k)
     by_test false e =
-        let h = total_append f (piece_documents p) (all_documents ps) in
-        let k = total_append f (piece_documents p) (all_documents (filter (λ q. not (t q)) ps)) in
+        let h = total_of-append f (piece_documents p) (all_documents ps) in
+        let k = total_of-append f (piece_documents p)
+        (all_documents (filter (λ q. not (t q)) ps)) in
         omega (arith, e, h, k)
 
 pub keeps_live : MergedPiecesKeepLiveDocuments
@@ -107,15 +78,15 @@ keeps_live journal upto last gs pieces brought early within same before f =
     let from = filter t pieces in
     let g : PlainNumbered → ℕ = passing f (live last) in
     let spread = ap (total_of g) (flat_map-append piece_documents kept brought)
-    ∙ total_append g (all_documents kept) (all_documents brought) in
+    ∙ total_of-append g (all_documents kept) (all_documents brought) in
     let merged : total_of g (all_documents brought) ≡ total_of g (all_documents from) =
     same g
-    ∙ sym (total_filter f (live last) (filter (live upto) (all_documents from)))
+    ∙ sym (total_of-filter f (live last) (filter (live upto) (all_documents from)))
     ∙ ap (total_of f) (filter_inside (live last) (live upto) (all_documents from)
     (λ d h. deleted_later journal upto last d early h))
-    ∙ total_filter f (live last) (all_documents from) in
+    ∙ total_of-filter f (live last) (all_documents from) in
     let whole = split_total t g pieces in
-    let old = sym (total_filter f (live last) (all_documents pieces)) ∙ before f in
+    let old = sym (total_of-filter f (live last) (all_documents pieces)) ∙ before f in
     let e : total_of g (all_documents (kept ++ brought)) ≡ total_of g (all_documents pieces) =
     omega (arith, spread, merged, whole) in
-    total_filter f (live last) (all_documents (kept ++ brought)) ∙ e ∙ old
+    total_of-filter f (live last) (all_documents (kept ++ brought)) ∙ e ∙ old

@@ -154,7 +154,7 @@ module _ (r : Record) (caller : ℕ) (m : Merge) (may : MayEnd r m) where
 -- ---- a merge ends
 
 -- a new generation isn't one of the merge's
-new_apart : (r : Record) (gens : List ℕ) (into : ℕ) → AreInUse r gens → IsNew r into
+pub new_apart : (r : Record) (gens : List ℕ) (into : ℕ) → AreInUse r gens → IsNew r into
     → is_among into gens ≡ false
 new_apart r gens into used new = by_test (is_among into gens) refl
   where

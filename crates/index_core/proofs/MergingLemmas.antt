@@ -7,7 +7,6 @@ use Rattle.std.specs.List.{AllByRecursion, list_any}
 use Rattle.std.proofs.lemmas.Bool.Decides.{nat_tests}
 use Rattle.std.proofs.lemmas.List.{append-nil}
 use Rattle.std.proofs.lemmas.List.Elements.{filter-append, filter_agree}
-use Rattle.std.proofs.lemmas.List.Folds.{list_any-append}
 use Rattle.std.proofs.lemmas.List.Sums.{fold-append}
 use Rattle.sg_paths.specs.Operations.{PlainNumbered, documents_from}
 use Rattle.index_core.specs.Histories.{HistoryEvent, accept, freeze, begin, built}
@@ -19,28 +18,11 @@ use Rattle.index_core.specs.Generations.{merges_of, is_kept_by, holders_after, h
 use Rattle.index_core.specs.EndedMerges.{IsOfKnownMerge, HasKnownMerges, BeginsNextMerge}
 use Rattle.index_core.specs.EndedMerges.{GenerationsStay, IsBegunMerge, EndedMergesBring}
 use Rattle.index_core.proofs.EventLemmas.{begun_by, frozen_after, merges-more}
-
--- ---- members of a list with one number more
+use Rattle.index_core.proofs.GenerationLemmas.{among_other, among_itself}
 
 pub or_none : (b : Bool) → (b || false) ≡ b
 or_none true = refl
 or_none false = refl
-
-or_one : (b : Bool) → (b || true) ≡ true
-or_one true = refl
-or_one false = refl
-
-pub among_other : (g x : ℕ) (gs : List ℕ) → nat_eq g x ≡ false
-    → is_among g (gs ++ x ∷ []) ≡ is_among g gs
-among_other g x gs other =
-    list_any-append (nat_eq g) gs (x ∷ [])
-    ∙ ap (λ (b : Bool). is_among g gs || (b || false)) other ∙ or_none (is_among g gs)
-
-pub among_itself : (g : ℕ) (gs : List ℕ) → is_among g (gs ++ g ∷ []) ≡ true
-among_itself g gs =
-    let same : nat_eq g g ≡ true = grind (arith, nat_tests) in
-    list_any-append (nat_eq g) gs (g ∷ [])
-    ∙ ap (λ (b : Bool). is_among g gs || (b || false)) same ∙ or_one (is_among g gs)
 
 -- ---- the merges of a number
 

@@ -9,6 +9,7 @@ use Rattle.std.proofs.lemmas.List.Folds.{list_any-append}
 use Rattle.index_core.specs.Histories.{HistoryEvent, merge_begin, Merge, is_among, begun_merges}
 use Rattle.index_core.specs.Histories.{closed_merge, ended_merge, open_merges, replaced, current}
 use Rattle.index_core.specs.Histories.{drawn_generation}
+use Rattle.index_core.specs.MergeCalls.{without_merge}
 use Rattle.index_core.proofs.EventLemmas.{begun_by, frozen_after, merges-more, merges-skip}
 use Rattle.index_core.proofs.HistoryLemmas.{skips}
 
@@ -59,10 +60,6 @@ current-begin h caller n gens new =
     ) refl
 
 -- ---- a merge ends
-
--- the merges with another number
-abbrev pub without_merge : ℕ → List Merge → List Merge
-without_merge n ms = filter (λ m. not (nat_eq m.merge n)) ms
 
 filter_twice : (p q : Merge → Bool) (ms : List Merge)
     → filter q (filter p ms) ≡ filter (λ m. p m && q m) ms

@@ -10,13 +10,13 @@ use Rattle.std.proofs.lemmas.List.{length-append, length-map, take_at}
 use Rattle.sg_paths.specs.Operations.{PlainOp, PlainNumbered, PlainBatch}
 use Rattle.segment.specs.Batches.{AreConsecutive}
 use Rattle.segment.specs.Pieces.{PlainPiece, piece_documents, live_docs_or_all}
-use Rattle.segment.specs.Views.{PlainParts, IsApplied, AreBuildable, IsBuildablePiece}
+use Rattle.segment.specs.Views.{PlainParts, IsApplied, AreCovered, AreBuildable, IsBuildablePiece}
 use Rattle.index_core.specs.Histories.{Record}
 use Rattle.index_core.specs.Records.{frozen}
 use Rattle.index_core.specs.Generations.{documents_of}
 use Rattle.index_core.specs.CurrentPieces.{IsPieceOf, AreOf}
 use Rattle.index_core.specs.Keeping.{AreCurrent, least_applied, known_batches}
-use Rattle.index_core.specs.Fields.{batched, AreBatchesFrom}
+use Rattle.index_core.specs.Slots.{batched, AreBatchesFrom}
 use Rattle.index_core.proofs.ListLemmas.{all_weaker}
 
 least_known : (most : ℕ) (ps : List PlainPiece) → (least_applied most ps ≤ most)
@@ -125,7 +125,7 @@ pub record AreShared (r : Record) (ps : List PlainPiece) (bs : List PlainBatch)
   pub few : length ps < 2 ^ 32
 
 -- the parts of a view of them
-abbrev shared_parts : ℕ → Record → List PlainPiece → List PlainBatch → PlainParts
+abbrev pub shared_parts : ℕ → Record → List PlainPiece → List PlainBatch → PlainParts
 shared_parts number r ps bs = record {
   number = number;
   upto = frozen r;
@@ -134,12 +134,14 @@ shared_parts number r ps bs = record {
   generations = map (λ p. p.generation) ps;
 }
 
-parts_are : {r : Record} {ps : List PlainPiece} {bs : List PlainBatch} {buffer : List PlainOp}
-    → AreShared r ps bs buffer → (number : ℕ) → AreOf r (shared_parts number r ps bs)
-parts_are {r} {ps} {bs} {buffer} shared number =
+-- pieces that are what the record says are covered by the batches behind those that all know
+pub covered_are : {r : Record} {ps : List PlainPiece} {bs : List PlainBatch}
+    {buffer : List PlainOp} → AreShared r ps bs buffer → (number : ℕ) (qs : List PlainPiece)
+    → AllByRecursion (IsPieceOf r) qs → AreCovered r.journal (shared_parts number r qs bs)
+covered_are {r} {ps} {bs} {buffer} shared number qs each =
     let n : ℕ = frozen r in
-    let least = least_applied n ps in
-    let known = least_known n ps in
+    let least = least_applied n qs in
+    let known = least_known n qs in
     let split = behind 0 least bs (numbered_at 1 (0 + 1) bs (omega arith) shared.numbered)
     (omega arith) in
     let start : ℕ = length split.front in
@@ -150,30 +152,32 @@ parts_are {r} {ps} {bs} {buffer} shared number =
     let more = length-append (batched bs) buffer in
     let at : 0 + length split.front + 1 ≡ start + 1 = omega arith in
     record {
-      parts_of = record {
-        pieces = record {
-          within = omega (arith, shared.all_frozen, long, more);
-          start = start;
-          applied = all_weaker (IsPieceOf r) (IsApplied r.journal) (λ p is. is.live_docs) ps
-              shared.pieces.each;
-          known = known_each r start least ps (omega (arith, split.known)) known.1
-              shared.pieces.each;
-          covered = record {
-            numbered = consecutive (start + 1) rest
-                (numbered_at (0 + length split.front + 1) (start + 1) rest at split.numbered);
-            operations =
-                sym (drop-append_seam split.front (batched rest))
-                ∙ ap (drop start) (sym split.split ∙ sym first);
-          };
-          generations = refl;
-        };
-        live = shared.pieces.live;
+      within = omega (arith, shared.all_frozen, long, more);
+      start = start;
+      applied = all_weaker (IsPieceOf r) (IsApplied r.journal) (λ p is. is.live_docs) qs each;
+      known = known_each r start least qs (omega (arith, split.known)) known.1 each;
+      covered = record {
+        numbered = consecutive (start + 1) rest
+            (numbered_at (0 + length split.front + 1) (start + 1) rest at split.numbered);
+        operations =
+            sym (drop-append_seam split.front (batched rest))
+            ∙ ap (drop start) (sym split.split ∙ sym first);
       };
-      each = shared.pieces.each;
-      documents = documents_each r ps shared.pieces.each;
-      generations = shared.pieces.generations;
-      upto = refl;
+      generations = refl;
     }
+
+parts_are : {r : Record} {ps : List PlainPiece} {bs : List PlainBatch} {buffer : List PlainOp}
+    → AreShared r ps bs buffer → (number : ℕ) → AreOf r (shared_parts number r ps bs)
+parts_are {r} {ps} shared number = record {
+  parts_of = record {
+    pieces = covered_are shared number ps shared.pieces.each;
+    live = shared.pieces.live;
+  };
+  each = shared.pieces.each;
+  documents = documents_each r ps shared.pieces.each;
+  generations = shared.pieces.generations;
+  upto = refl;
+}
 
 pub parts_given : {r : Record} {ps : List PlainPiece} {bs : List PlainBatch}
     {buffer : List PlainOp} → AreShared r ps bs buffer

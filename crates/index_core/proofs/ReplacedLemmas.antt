@@ -10,8 +10,8 @@ use Rattle.std.proofs.lemmas.List.Elements.{filter-append, filter_agree, filter_
 use Rattle.std.proofs.lemmas.List.Folds.{list_any-append}
 use Rattle.sg_paths.specs.Operations.{PlainNumbered}
 use Rattle.sg_paths.specs.LiveDocuments.{is_deleted}
-use Rattle.index_core.specs.Histories.{HistoryEvent, merge_end, Record, Merge, is_among, begun_merges}
-use Rattle.index_core.specs.Histories.{ended_merge, drawn_generation, replaced}
+use Rattle.index_core.specs.Histories.{HistoryEvent, merge_end, Record, Merge, is_among}
+use Rattle.index_core.specs.Histories.{begun_merges, ended_merge, drawn_generation, replaced}
 use Rattle.index_core.specs.Records.{with_event, drawn, current}
 use Rattle.index_core.specs.Generations.{merges_of, is_kept_by, holders_of}
 use Rattle.index_core.specs.EndedMerges.{CurrentAfterMerge, holding, StillOneHolds}

@@ -8,8 +8,8 @@ use Rattle.std.proofs.lemmas.Bool.Decides.{nat_tests}
 use Rattle.std.proofs.lemmas.List.Elements.{All-from_recursion}
 use Rattle.index_holds.specs.declared.held.Held.{Held}
 use Rattle.index_holds.specs.Entries.{Rise}
-use Rattle.index_holds.specs.Holders.{is_held, with_current, without_current, after_retire, given_up}
-use Rattle.index_holds.specs.Holders.{IsCurrentAndHeld}
+use Rattle.index_holds.specs.Holders.{is_held, with_current, without_current, after_retire}
+use Rattle.index_holds.specs.Holders.{given_up, IsCurrentAndHeld}
 use Rattle.index_core.specs.Histories.{Record, is_among}
 use Rattle.index_core.specs.Records.{drawn, is_referenced}
 use Rattle.index_core.specs.HeldGenerations.{holder_count, AreHolds, RisesFrom}
@@ -88,7 +88,8 @@ module _ (r r' : Record) (gens : List ℕ)
       (counted_agree left (in_use r') (holder_count r') (holder_count r') used (λ g. refl)
       (after_retire gens hs) (counted_retired hs are))
 
-  out_after : (into : ℕ) → is_referenced r into ≡ false → is_kept left (holder_count r') into ≡ false
+  out_after : (into : ℕ) → is_referenced r into ≡ false
+      → is_kept left (holder_count r') into ≡ false
   out_after into out = by_test (is_kept left (holder_count r') into) refl
     where
       by_test : (b : Bool) → is_kept left (holder_count r') into ≡ b → b ≡ false

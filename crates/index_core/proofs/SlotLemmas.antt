@@ -13,9 +13,10 @@ use Rattle.index_core.specs.CurrentPieces.{is_segment}
 use Rattle.index_core.specs.HeldGenerations.{RisesFrom}
 use Rattle.index_core.specs.Keeping.{with_piece, with_segment, with_live_docs}
 use Rattle.index_core.specs.Keeping.{has_unbuilt, has_behind}
-use Rattle.index_core.specs.Fields.{PlainSlot, slot_piece, body_at, HaveBatches, with_slot}
-use Rattle.index_core.specs.Fields.{has_slot}
-use Rattle.index_core.specs.Fields.{lacks_segment, slot_built, lacks_deletes, slot_lived}
+use Rattle.index_core.specs.Slots.{PlainSlot, slot_piece, body_at, HasBatch, HaveBatches}
+use Rattle.index_core.specs.Slots.{with_slot}
+use Rattle.index_core.specs.Slots.{has_slot}
+use Rattle.index_core.specs.Slots.{lacks_segment, slot_built, lacks_deletes, slot_lived}
 
 abbrev pub is_of : ℕ → PlainSlot → Bool
 is_of g s = nat_eq s.generation g
@@ -232,14 +233,14 @@ pub lived_same : (bs : List PlainBatch) (g upto : ℕ) (live_docs : List Bool) (
 lived_same bs g upto live_docs ss =
     with_same bs g (slot_lived live_docs upto) (with_live_docs live_docs upto) (λ s. refl) ss
 
--- the places stay
+-- the places stay, where each changed slot has its batch
 pub places_stay : (bs : List PlainBatch) (g : ℕ) (f : PlainSlot → PlainSlot)
-    → ((s : PlainSlot) → (f s).at ≡ s.at) → (ss : List PlainSlot) → HaveBatches bs ss
-    → HaveBatches bs (with_slot g f ss)
-places_stay bs g f same [] have = tt
-places_stay bs g f same (s ∷ ss) have =
-    (by_cases (nat_eq s.generation g) have.0, places_stay bs g f same ss have.1)
+    → ((s : PlainSlot) → HasBatch bs s → HasBatch bs (f s)) → (ss : List PlainSlot)
+    → HaveBatches bs ss → HaveBatches bs (with_slot g f ss)
+places_stay bs g f still [] have = tt
+places_stay bs g f still (s ∷ ss) have =
+    (by_cases (nat_eq s.generation g), places_stay bs g f still ss have.1)
   where
-    by_cases : (b : Bool) → s.at < length bs → (cond b (f s) s).at < length bs
-    by_cases true within = subst (λ (n : ℕ). n < length bs) (sym (same s)) within
-    by_cases false within = within
+    by_cases : (b : Bool) → HasBatch bs (cond b (f s) s)
+    by_cases true = still s have.0
+    by_cases false = have.0

@@ -2,7 +2,7 @@
 use Rattle.std.proofs.Common.{◌≡◌, ℕ, zero, suc, ◌+◌, ◌<◌, ◌≤◌, Bool, true, false, List, [], ◌∷◌}
 use Rattle.std.proofs.Common.{◌++◌}
 use Rattle.std.proofs.Common.{length, map, drop, min, refl, sym, ◌∙◌, ap, arith, Option, Some, None}
-use Rattle.std.specs.Prelude.{slice_index_or, nat_le, if◌then◌else◌}
+use Rattle.std.specs.Prelude.{slice_index_or, nat_le, is_none, if◌then◌else◌}
 use Rattle.std.proofs.lemmas.Bool.Decides.{nat_tests}
 use Rattle.std.proofs.lemmas.List.{map-append, append-nil, drop-append-le}
 use Rattle.sg_paths.specs.declared.op.Op.{Op}
@@ -14,8 +14,10 @@ use Rattle.index_core.specs.declared.event.Event.{Event}
 use Rattle.index_core.specs.Histories.{HistoryEvent, freeze, event_of}
 use Rattle.index_core.specs.Keeping.{least_applied, known_batches}
 use Rattle.index_core.specs.Fields.{Stored, all_pieces, all_batches, next_piece, next_batch}
-use Rattle.index_core.specs.Fields.{freezing, buffer_of, is_closed, IsClosed, PlainSlot, slot_piece}
-use Rattle.index_core.specs.Fields.{body_at, no_batch, HaveBatches}
+use Rattle.index_core.specs.Fields.{freezing, buffer_of, is_closed, IsClosed}
+use Rattle.index_core.specs.Slots.{PlainSlot, slot_piece}
+use Rattle.index_core.specs.Slots.{body_at, no_batch, HasBatch, HaveBatches}
+use Rattle.index_core.specs.OwnLists.{PlainLists}
 
 -- one event more, as the history has it
 pub mapped_one : (events more : List Event) (event : Event)
@@ -37,11 +39,11 @@ at_end [] b = refl
 at_end (x ∷ bs) b = at_end bs b
 
 body_same : (bs : List PlainBatch) (b : PlainBatch) (n : ℕ) (ds : Option (List PlainNumbered))
-    → n < length bs → body_at (bs ++ b ∷ []) n ds ≡ body_at bs n ds
-body_same bs b n None within = ap unbuilt (stands bs b n within)
+    → (is_none ds ≡ true → n < length bs) → body_at (bs ++ b ∷ []) n ds ≡ body_at bs n ds
+body_same bs b n None within = ap unbuilt (stands bs b n (within refl))
 body_same bs b n (Some ds) within = refl
 
-body_stands : (bs : List PlainBatch) (b : PlainBatch) (s : PlainSlot) → s.at < length bs
+body_stands : (bs : List PlainBatch) (b : PlainBatch) (s : PlainSlot) → HasBatch bs s
     → slot_piece (bs ++ b ∷ []) s ≡ slot_piece bs s
 body_stands bs b s within =
     ap (λ (body : PieceBody). record {
@@ -82,11 +84,12 @@ pieces_more bs b slots g applied have =
 -- the store once the closed batch is frozen
 pub frozen_store : (caller : ℕ) (h h' : List HistoryEvent) (bs bs' : List PlainBatch)
     (slots slots' : List PlainSlot) (b : PlainBatch) (closed later : Option PlainBatch)
-    (buffered : List Op) (held held' : List Held)
-    (frozen drawn begun opened places places' count room slot_count rooms spare : ℕ)
+    (buffered : List Op) (held held' : List Held) (lists : PlainLists)
+    (frozen drawn begun opened places places' count room slot_count rooms spare merging : ℕ)
     (at from upto : ℕ)
     → closed ≡ Some b → later ≡ None
-    → IsClosed frozen closed buffered count room slot_count rooms spare → HaveBatches bs slots
+    → IsClosed frozen closed buffered count room slot_count rooms spare merging
+    → HaveBatches bs slots
     → from ≡ b.from → upto ≡ b.upto
     → h' ≡ h ++ freeze caller (drawn + 1) from upto ∷ [] → bs' ≡ bs ++ b ∷ []
     → slots' ≡ slots ++ record {
@@ -104,6 +107,7 @@ pub frozen_store : (caller : ℕ) (h h' : List HistoryEvent) (bs bs' : List Plai
       buffer = buffer_of later buffered;
       closed = is_closed later;
       held = held';
+      lists = lists;
       frozen_count = upto;
       drawn_count = drawn + 1;
       begun_count = begun;
@@ -117,20 +121,21 @@ pub frozen_store : (caller : ℕ) (h h' : List HistoryEvent) (bs bs' : List Plai
       buffer = buffer_of closed buffered;
       closed = is_closed closed;
       held = held;
+      lists = lists;
       frozen_count = frozen;
       drawn_count = drawn;
       begun_count = begun;
       open_count = opened;
       places = places;
     })
-frozen_store caller h h' bs bs' slots slots' b closed later buffered held held' frozen drawn begun
-    opened places places' count room slot_count rooms spare at from upto some none is have from-is
-    upto-is history batches slots-are at-is room-is held-is =
+frozen_store caller h h' bs bs' slots slots' b closed later buffered held held' lists frozen drawn
+    begun opened places places' count room slot_count rooms spare merging at from upto some none is
+    have from-is upto-is history batches slots-are at-is room-is held-is =
     let all = rw some at is in
     let whole : b.operations ++ [] ≡ b.operations = append-nil b.operations in
     rw (history, batches, slots-are, at-is, some, none, room-is, held-is, from-is, upto-is)
     (rw (pieces_more bs b slots (drawn + 1) frozen have)
-    (rw all.0 (rw whole (rw (← all.3) (rw (← all.2) refl)))))
+    (rw all.2 (rw whole (rw (← all.5) (rw (← all.4) refl)))))
 
 -- the least applied is at most the last's
 least_below : (most : ℕ) (ps : List PlainPiece) → least_applied most ps ≤ most
@@ -168,17 +173,17 @@ unknown_more least bs b over =
 
 -- what the closed batch is
 pub closed_is : (frozen : ℕ) (closed : Option PlainBatch) (buffered : List Op)
-    (count room slot_count rooms spare : ℕ) (b : PlainBatch) → closed ≡ Some b
-    → IsClosed frozen closed buffered count room slot_count rooms spare
+    (count room slot_count rooms spare merging : ℕ) (b : PlainBatch) → closed ≡ Some b
+    → IsClosed frozen closed buffered count room slot_count rooms spare merging
     → b ≡ record {
       from = frozen + 1;
       upto = frozen + length (buffer_of closed buffered);
       operations = buffer_of closed buffered;
     }
-closed_is frozen closed buffered count room slot_count rooms spare b some is =
+closed_is frozen closed buffered count room slot_count rooms spare merging b some is =
     let all = rw some at is in
     let whole : b.operations ++ [] ≡ b.operations = append-nil b.operations in
-    rw some (rw all.0 (rw whole (rw (← all.3) (rw (← all.2) refl))))
+    rw some (rw all.2 (rw whole (rw (← all.5) (rw (← all.4) refl))))
 
 pub least_closed : (s : Stored) (least upto : ℕ) (ps : List PlainPiece)
     → least ≡ least_applied upto ps

@@ -1,46 +1,50 @@
--- The store after a view has begun or ended.
-use Rattle.std.proofs.Common.{◌≡◌, ℕ, ◌+◌, ◌-◌, ◌<◌, ◌≤◌, ◌^◌, Bool, true, false, not, nat_eq, List}
-use Rattle.std.proofs.Common.{[], ◌∷◌, ◌++◌, length, map, drop, refl, sym, ◌∙◌, ap, subst, arith}
-use Rattle.std.specs.Prelude.{if◌then◌else◌, nat_lt, All}
+-- The store after a view has begun.
+use Rattle.std.proofs.Common.{◌≡◌, ℕ, ◌+◌, ◌<◌, ◌≤◌, ◌^◌, Bool, true, false, not, nat_eq, List}
+use Rattle.std.proofs.Common.{[], ◌∷◌, ◌++◌, cond, length, map, drop, refl, sym, ◌∙◌, ap, subst}
+use Rattle.std.proofs.Common.{arith}
+use Rattle.std.specs.Prelude.{if◌then◌else◌, nat_lt, filter, All}
 use Rattle.std.specs.List.{filter_map}
 use Rattle.std.proofs.lemmas.Bool.Decides.{nat_tests}
 use Rattle.std.proofs.lemmas.List.{length-append, length-map}
-use Rattle.std.proofs.lemmas.List.Elements.{filter_map-append, All-push, All-weaker, All-filter}
-use Rattle.std.proofs.lemmas.List.Elements.{All-contains}
+use Rattle.std.proofs.lemmas.List.Elements.{filter_map-append, All-weaker}
 use Rattle.segment.specs.Pieces.{PlainPiece}
 use Rattle.segment.specs.Views.{PlainParts, AreBuildable}
 use Rattle.std.specs.List.Sorted.{IsStrictlyIncreasing}
-use Rattle.index_holds.specs.Holders.{with_holder, after_release, HasRoom}
+use Rattle.index_holds.specs.Holders.{with_holder, HasRoom}
 use Rattle.index_core.specs.declared.limits.TheConstants.{MOST_OPEN_VIEWS}
-use Rattle.index_core.specs.Histories.{freeze, view_end, Record}
+use Rattle.index_core.specs.Histories.{freeze, Record}
 use Rattle.index_core.specs.Histories.{View, is_among, accepted, begun_view, begun_views}
-use Rattle.index_core.specs.Histories.{ended_view}
+use Rattle.index_core.specs.Histories.{ended_view, drawn, replaced}
 use Rattle.index_core.specs.Histories.{open_views}
-use Rattle.index_core.specs.Records.{with_event, buffered, released}
-use Rattle.index_core.specs.LegalHistories.{MeetsLine, IsOpenView}
+use Rattle.index_core.specs.Records.{with_event, buffered}
+use Rattle.index_core.specs.LegalHistories.{MeetsLine}
 use Rattle.index_core.specs.OpenViews.{view_of, without}
-use Rattle.index_core.specs.Calls.{after_freeze, after_begin, after_end, begun_by, view_of_all}
+use Rattle.index_core.specs.Calls.{after_freeze, after_begin, begun_by, view_of_all}
 use Rattle.index_core.specs.Calls.{beginning}
 use Rattle.index_core.specs.CurrentPieces.{AreOf}
-use Rattle.index_core.specs.Keeping.{IsPlain}
+use Rattle.index_core.specs.HeldEvents.{AreFewOpen}
+use Rattle.index_core.specs.MergedPieces.{LeavesPieces}
 use Rattle.index_core.specs.Keeping.{least_applied, known_batches}
 use Rattle.index_core.specs.Fields.{Stored, record_of, AreViews, AreFields, AreHeld, IsKept}
-use Rattle.index_core.specs.Fields.{batched}
+use Rattle.index_core.specs.Slots.{batched}
+use Rattle.index_core.specs.OwnLists.{with_view_list}
 use Rattle.index_core.specs.Fields.{freezing, freezing_all, all_pieces, all_batches, next_piece}
-use Rattle.index_core.specs.Fields.{next_batch, new_view, viewing, ending}
-use Rattle.index_core.proofs.HistoryLemmas.{skips, merges-none}
-use Rattle.index_core.proofs.ViewLemmas.{open_views-end, open_views-begin, is_among-over}
-use Rattle.index_core.proofs.ViewLemmas.{without_one, without_newest, AreViewsFrom-more, below_next}
-use Rattle.index_core.proofs.ReleasedLemmas.{current-unmerged, released-none}
-use Rattle.index_core.proofs.QuietLemmas.{quiet_keeps, views_quiet}
+use Rattle.index_core.specs.Fields.{next_batch, new_view, viewing}
+use Rattle.index_core.proofs.HistoryLemmas.{skips}
+use Rattle.index_core.proofs.EventLemmas.{current-skip}
+use Rattle.index_core.proofs.ViewLemmas.{open_views-begin, is_among-over}
+use Rattle.index_core.proofs.ViewLemmas.{without_newest, AreViewsFrom-more}
+use Rattle.index_core.proofs.KnownMergeLemmas.{known}
+use Rattle.index_core.proofs.PlainLemmas.{plain_after, merges_still}
+use Rattle.index_core.proofs.MergedPieceLemmas.{leaves}
+use Rattle.index_core.proofs.OwnListLemmas.{lists_begin}
 use Rattle.index_core.proofs.PartsLemmas.{AreShared, parts_given}
-use Rattle.index_core.specs.Histories.{Merge}
-use Rattle.index_core.specs.Records.{open_merges}
 use Rattle.index_core.proofs.RisingLemmas.{rises_less}
-use Rattle.index_core.proofs.HeldLemmas.{held_begin, held_end, Ended, increasing}
-use Rattle.index_core.proofs.KeptLemmas.{counted, buffered_is, kept_changed}
+use Rattle.index_core.proofs.HeldLemmas.{held_begin, increasing}
+use Rattle.index_core.proofs.KeptLemmas.{counted, buffered_is, kept_changed, same_drawn}
 use Rattle.index_core.proofs.KeptLemmas.{builds_nothing, Leaves}
 use Rattle.index_core.proofs.BufferLemmas.{freezes}
+use Rattle.index_core.proofs.EndingLemmas.{open_below}
 
 -- ---- a view begins
 
@@ -79,21 +83,35 @@ views_begin k caller fields few =
       most_open = omega (arith, few);
     }
 
+-- fewer views and merges are open than a count of holders can tell
+pub few_open : {k : Stored} → IsKept k → AreFewOpen (record_of k)
+few_open {k} kept =
+    let fields = kept.fields in
+    omega (
+      arith,
+      fields.views.open_count,
+      fields.views.most_open,
+      fields.own_lists.merges_open,
+      fields.few_drawn,
+      fields.most_operations,
+    )
+
+-- the number of the next view isn't that of one that ended
+new_number : (k : Stored) → AreFields k
+    → is_among (k.begun_count + 1) (filter_map ended_view k.history) ≡ false
+new_number k fields =
+    is_among-over (k.begun_count + 1) k.begun_count (filter_map ended_view k.history)
+    fields.views.ended_were_begun (omega arith)
+
 -- what the new view holds
 held_with : {k : Stored} → IsKept k → (caller : ℕ)
     → All (HasRoom k.held) (new_view caller k).generations
     × AreHeld (with_event (record_of k) (beginning (new_view caller k)))
     (map (with_holder (new_view caller k).generations) k.held)
 held_with {k} kept caller =
-    let r = record_of k in
     let v = new_view caller k in
-    let no_merges : open_merges r ≡ [] = rw kept.plain.unmerged refl in
-    let none = ap (λ (ms : List Merge). length ms) no_merges in
-    held_begin r v k.held
-    (is_among-over (k.begun_count + 1) k.begun_count (filter_map ended_view k.history)
-    kept.fields.views.ended_were_begun (omega arith)) kept.pieces.generations
-    (rises_less 0 1 v.generations (omega arith) kept.pieces.rising)
-    (omega (arith, none, kept.fields.views.open_count, kept.fields.views.most_open)) kept.held
+    held_begin (record_of k) v k.held (new_number k kept.fields) kept.pieces.generations
+    (rises_less 0 1 v.generations (omega arith) kept.pieces.rising) (few_open kept) kept.held
 
 -- what a view that begins asks of its generations
 pub may_hold : {k : Stored} → IsKept k → (gens : List ℕ)
@@ -105,12 +123,25 @@ may_hold {k} kept gens same =
       (held_with kept 0).0,
     )
 
+-- a view that begins leaves the pieces
+begin_leaves : (r : Record) (v : View) → LeavesPieces r (beginning v)
+begin_leaves r v = record {
+  next = tt;
+  freezes = refl;
+  draws = refl;
+  builds = refl;
+  applies = λ g. refl;
+  same = current-skip r.history (beginning v) (λ n. refl) refl refl;
+}
+
 pub kept_begin : {k : Stored} → IsKept k → (caller : ℕ) → length k.buffer ≡ 0
-    → k.open_count < MOST_OPEN_VIEWS → length k.history + 2 + k.open_count ≤ k.places
+    → k.open_count < MOST_OPEN_VIEWS
+    → length k.history + 2 + k.open_count + k.lists.merges_open ≤ k.places
     → IsKept (viewing caller (map (λ piece. piece.generation) k.pieces) k)
 kept_begin {k} kept caller none few enough =
     let r = record_of k in
     let fields = kept.fields in
+    let plain = kept.plain in
     let v = new_view caller k in
     let event = beginning v in
     let count = counted k kept.legal.numbered fields in
@@ -121,11 +152,23 @@ kept_begin {k} kept caller none few enough =
       kept.pieces.generations,
       omega (arith, fields.views.open_count, few),
     ) in
-    let quiet = (views_quiet r caller v.view v.upto v.generations kept.plain).0 in
-    kept_changed kept event k.pieces (map (with_holder v.generations) k.held) (k.begun_count + 1)
-    (k.open_count + 1) line refl refl refl quiet.merges (builds_nothing k event kept.plain refl)
-    (quiet_keeps r event k.pieces kept.plain quiet kept.pieces) (held_with kept caller).1
-    (views_begin k caller fields few) (omega (arith, enough))
+    kept_changed kept event k.pieces (map (with_holder v.generations) k.held)
+    (with_view_list v.view v.generations k.lists) k.drawn_count (k.begun_count + 1)
+    (k.open_count + 1) (record {
+      line = line;
+      no_accept = refl;
+      no_freeze = refl;
+      plain = plain_after r event plain refl refl refl
+          (merges_still r event plain.merges (λ n. refl) refl refl tt refl refl)
+          (builds_nothing k event plain refl);
+      drawn_count = same_drawn k event fields refl;
+      few_drawn = fields.few_drawn;
+      pieces = leaves r event k.pieces (known r plain.merges) (begin_leaves r v) kept.pieces;
+      held = (held_with kept caller).1;
+      views = views_begin k caller fields few;
+      own_lists = lists_begin k.history k.lists v fields.own_lists (new_number k fields);
+      room = omega (arith, enough);
+    })
 
 -- the definition's view is that one
 pub view_is : {k : Stored} → IsKept k → (caller : ℕ) → length k.buffer ≡ 0
@@ -136,96 +179,6 @@ view_is {k} kept caller none =
     omega (arith, counted k kept.legal.numbered kept.fields, none) in
     let generations = kept.pieces.generations in
     rw number (rw upto (rw (← generations) refl))
-
--- ---- a view ends
-
--- one view fewer is open
-one_fewer : (k : Stored) (caller view : ℕ) (v : View)
-    → AreFields k → IsOpenView (record_of k) caller view v
-    → length (without view (open_views k.history)) + 1 ≡ k.open_count
-one_fewer k caller view v fields is =
-    rw (← is.number)
-    (without_one (λ w. not (is_among w.view (filter_map ended_view k.history))) 1
-    (begun_views k.history) v fields.views.numbers is.is_open ∙ fields.views.open_count)
-
--- the open views have numbers of views that were begun
-pub open_below : (k : Stored) → AreFields k
-    → All (λ w. w.view < k.begun_count + 1) (open_views k.history)
-open_below k fields =
-    let still : View → Bool = λ w. not (is_among w.view (filter_map ended_view k.history)) in
-    All-weaker (λ w. w.view < 1 + length (begun_views k.history)) (λ w. w.view < k.begun_count + 1)
-    (λ w below. omega (arith, below, fields.views.count)) (open_views k.history)
-    (All-filter still (λ w. w.view < 1 + length (begun_views k.history)) (begun_views k.history)
-    (below_next 1 (begun_views k.history) fields.views.numbers))
-
-was_begun : (k : Stored) (caller view : ℕ) (v : View)
-    → AreFields k → IsOpenView (record_of k) caller view v → view ≤ k.begun_count
-was_begun k caller view v fields is =
-    let below : v.view < k.begun_count + 1 =
-    All-contains (λ w. w.view < k.begun_count + 1) (open_views k.history) v (open_below k fields)
-    is.is_open in
-    omega (arith, below, is.number)
-
-pub none_released : (k : Stored) (caller view : ℕ) → IsPlain (record_of k)
-    → released (record_of k) (view_end caller view []) ≡ []
-none_released k caller view plain =
-    released-none (record_of k) (view_end caller view []) refl
-    (merges-none 0 k.history (view_end caller view []) (λ n. refl) plain.unmerged)
-
-pub some_open : {k : Stored} → IsKept k → (caller view : ℕ) (v : View)
-    → IsOpenView (record_of k) caller view v → 0 < k.open_count
-some_open {k} kept caller view v is =
-    let fewer = one_fewer k caller view v kept.fields is in omega (arith, fewer)
-
-views_end : (k : Stored) (caller view : ℕ) (v : View)
-    → AreFields k → IsOpenView (record_of k) caller view v
-    → AreViews (k.history ++ view_end caller view [] ∷ []) k.begun_count (k.open_count - 1)
-views_end k caller view v fields is =
-    let event = view_end caller view [] in
-    let views = fields.views in
-    let begun : begun_views (k.history ++ event ∷ []) ≡ begun_views k.history =
-    skips begun_view k.history event refl in
-    let fewer = one_fewer k caller view v fields is in
-    record {
-      count = ap (λ (vs : List View). length vs) begun ∙ views.count;
-      numbers = rw begun views.numbers;
-      few = omega (arith, views.few, length-append k.history (event ∷ []));
-      ended_were_begun =
-          rw (filter_map-append ended_view k.history (event ∷ []))
-          (All-push (λ n. n ≤ k.begun_count) (filter_map ended_view k.history) view
-          views.ended_were_begun (was_begun k caller view v fields is));
-      open_count =
-          ap (λ (vs : List View). length vs) (open_views-end k.history caller view [])
-          ∙ omega (arith, fewer);
-      most_open = omega (arith, views.most_open);
-    }
-
-pub ended : {k : Stored} → IsKept k → (caller view : ℕ) (v : View)
-    → IsOpenView (record_of k) caller view v → Ended (record_of k) k.held caller v
-ended {k} kept caller view v is =
-    held_end (record_of k) caller v k.held kept.fields.views.numbers is.is_open kept.held
-
-pub ends : {k : Stored} → IsKept k → (caller view : ℕ) (v : View)
-    → IsOpenView (record_of k) caller view v
-    → Leaves (ending caller view v.generations k) (after_end caller view (record_of k))
-ends {k} kept caller view v is =
-    let r = record_of k in
-    let event = view_end caller view [] in
-    let none = none_released k caller view kept.plain in
-    let line : MeetsLine r event = (v, is, sym none) in
-    let quiet = (views_quiet r caller view 0 [] kept.plain).1 in
-    let fewer = one_fewer k caller view v kept.fields is in
-    record {
-      kept = kept_changed kept event k.pieces (after_release v.generations k.held) k.begun_count
-          (k.open_count - 1) line refl refl refl quiet.merges
-          (builds_nothing k event kept.plain refl)
-          (quiet_keeps r event k.pieces kept.plain quiet kept.pieces)
-          (subst (λ (n : ℕ). AreHeld (with_event r (view_end caller n []))
-          (after_release v.generations k.held)) is.number (ended kept caller view v is).held)
-          (views_end k caller view v kept.fields is)
-          (omega (arith, kept.fields.room, fewer));
-      record_is = sym (rw none refl);
-    }
 
 -- ---- all is frozen, and a view begins
 
@@ -238,11 +191,13 @@ pub record Frozen (k k' : Stored) (caller : ℕ) : Type 0 where
   pub opened : k'.open_count ≡ k.open_count
   pub places : k'.places ≡ k.places
   pub long : length k'.history ≤ length k.history + 1
+  pub lists : k'.lists ≡ k.lists
   pub pieces : k'.pieces ≡ all_pieces k
   pub batches : k'.batches ≡ all_batches k
 
 pub freezes_all : {k : Stored} → IsKept k → (caller : ℕ) (b : Bool) → k.closed ≡ b
-    → b ≡ nat_lt 0 (length k.buffer) → length k.history + 1 + k.open_count ≤ k.places
+    → b ≡ nat_lt 0 (length k.buffer)
+    → length k.history + 1 + k.open_count + k.lists.merges_open ≤ k.places
     → Frozen k (freezing_all caller k) caller
 freezes_all {k} kept caller true closed is enough =
     let some : 0 < length k.buffer = grind (arith, nat_tests, is) in
@@ -257,6 +212,7 @@ freezes_all {k} kept caller true closed is enough =
       opened = refl;
       places = refl;
       long = omega (arith, longer);
+      lists = refl;
       pieces = ap (λ (b : Bool). if b then k.pieces ++ next_piece k ∷ [] else k.pieces)
           (sym closed);
       batches = ap (λ (b : Bool). if b then k.batches ++ next_batch k ∷ [] else k.batches)
@@ -275,22 +231,34 @@ freezes_all {k} kept caller false closed is enough =
       opened = refl;
       places = refl;
       long = omega arith;
+      lists = refl;
       pieces = ap (λ (b : Bool). if b then k.pieces ++ next_piece k ∷ [] else k.pieces)
           (sym closed);
       batches = ap (λ (b : Bool). if b then k.batches ++ next_batch k ∷ [] else k.batches)
           (sym closed);
     })
 
+-- a filter leaves no more
+fewer_left : (p : ℕ → Bool) (gs : List ℕ) → length (filter p gs) ≤ length gs
+fewer_left p [] = omega arith
+fewer_left p (g ∷ gs) = by_test (p g) (fewer_left p gs)
+  where
+    by_test : (b : Bool) → length (filter p gs) ≤ length gs
+        → length (cond b (g ∷ filter p gs) (filter p gs)) ≤ length (g ∷ gs)
+    by_test true less = omega (arith, less)
+    by_test false less = omega (arith, less)
+
 -- so many pieces there are at most
-few_pieces : {k : Stored} → IsKept k → length k.pieces < 2 ^ 32
+pub few_pieces : {k : Stored} → IsKept k → length k.pieces < 2 ^ 32
 few_pieces {k} kept =
     let count = length-map k.pieces (λ (p : PlainPiece). p.generation) in
-    let all = ap (λ (gs : List ℕ). length gs)
-    (kept.pieces.generations ∙ current-unmerged k.history kept.plain.unmerged) in
+    let all = ap (λ (gs : List ℕ). length gs) kept.pieces.generations in
+    let fewer = fewer_left (λ g. not (is_among g (replaced k.history))) (drawn k.history) in
     omega (
       arith,
       count,
       all,
+      fewer,
       kept.fields.drawn_generations,
       kept.fields.few_drawn,
       kept.fields.most_operations,
@@ -319,7 +287,8 @@ pub record Begins (k k' : Stored) (caller : ℕ) (r : Record) (parts : PlainPart
 pub begins : {k : Stored} → IsKept k → (caller : ℕ) (r : Record) (gens : List ℕ)
     (parts : PlainParts)
     → record_of k ≡ after_freeze caller r → length k.buffer ≡ 0
-    → k.open_count < MOST_OPEN_VIEWS → length k.history + 2 + k.open_count ≤ k.places
+    → k.open_count < MOST_OPEN_VIEWS
+    → length k.history + 2 + k.open_count + k.lists.merges_open ≤ k.places
     → gens ≡ map (λ piece. piece.generation) k.pieces
     → parts.number ≡ k.begun_count + 1 → parts.upto ≡ k.frozen_count → parts.pieces ≡ k.pieces
     → parts.batches ≡ drop (known_batches (least_applied parts.upto k.pieces) k.batches) k.batches

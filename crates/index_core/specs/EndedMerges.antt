@@ -16,7 +16,7 @@ use Rattle.index_core.specs.Histories.{is_among, drawn_generation}
 use Rattle.index_core.specs.Histories as events
 use Rattle.index_core.specs.Records.{with_event, drawn, current, next_merge}
 use Rattle.index_core.specs.Generations.{merges_of, holders_of, documents_of}
-use Rattle.index_core.specs.LegalHistories.{merged_documents}
+use Rattle.index_core.specs.LegalHistories.{merged_documents, IsLegal}
 
 -- an event that ends a merge ends one with a lesser number than n
 abbrev pub IsOfKnownMerge : ℕ → HistoryEvent → Type 0
@@ -26,6 +26,10 @@ IsOfKnownMerge n other = ⊤
 -- the merges that ended were begun
 abbrev pub HasKnownMerges : Record → Type 0
 HasKnownMerges r = AllByRecursion (IsOfKnownMerge (next_merge r)) r.history
+
+-- in a legal record they were
+abbrev pub LegalIsKnown : Type 0
+LegalIsKnown = (r : Record) → IsLegal r → HasKnownMerges r
 
 -- an event begins no merge, or the next one
 abbrev pub BeginsNextMerge : Record → HistoryEvent → Type 0

@@ -1,92 +1,37 @@
 -- How the core keeps its record in its fields. No public clause cites it. Source: this project's
 -- own.
-use Rattle.std.specs.Prelude.{◌≡◌, ◌≤◌, ◌<◌, ⊤, ℕ, ◌+◌, ◌-◌, Bool, true, false, nat_lt, nat_eq}
-use Rattle.std.specs.Prelude.{◌&&◌, Option, Some, None, is_none, is_some, if◌then◌else◌, List, []}
-use Rattle.std.specs.Prelude.{◌∷◌, ◌++◌, length, map, All, slice_index_or}
-use Rattle.std.specs.List.{filter_map, flat_map, list_any, AllByRecursion}
+use Rattle.std.specs.Prelude.{◌≡◌, ◌≤◌, ◌<◌, ⊤, ℕ, ◌+◌, ◌-◌, Bool, true, false, nat_lt, Option}
+use Rattle.std.specs.Prelude.{Some, None, if◌then◌else◌, List, [], ◌∷◌, ◌++◌, length, map, filter}
+use Rattle.std.specs.Prelude.{All}
+use Rattle.std.specs.List.{filter_map, flat_map, AllByRecursion}
 use Rattle.sg_paths.specs.declared.op.Op.{Op}
 use Rattle.sg_paths.specs.Operations.{PlainOp, PlainNumbered, PlainBatch, plain_op}
-use Rattle.segment.specs.Pieces.{PieceBody, unbuilt, segment, PlainPiece}
+use Rattle.segment.specs.Pieces.{unbuilt, segment, PlainPiece}
 use Rattle.index_holds.specs.declared.held.Held.{Held}
 use Rattle.index_holds.specs.Entries.{Rise}
-use Rattle.index_holds.specs.Holders.{with_current, with_holder, after_release}
+use Rattle.index_holds.specs.Holders.{with_current, with_holder, after_release, after_retire}
+use Rattle.index_holds.specs.Holders.{given_up}
+use Rattle.merge_plan.specs.declared.size.Size.{Size}
 use Rattle.index_core.specs.declared.limits.TheConstants.{MOST_OPERATIONS, BATCH_OPERATIONS}
-use Rattle.index_core.specs.declared.limits.TheConstants.{MOST_OPEN_VIEWS}
+use Rattle.index_core.specs.declared.limits.TheConstants.{MOST_OPEN_VIEWS, MOST_GENERATIONS}
 use Rattle.index_core.specs.Histories.{HistoryEvent, accept, freeze, begin, built}
-use Rattle.index_core.specs.Histories.{live_docs_updated, view_end, Record, View, frozen, drawn}
-use Rattle.index_core.specs.Histories.{begun_views, open_views, ended_view}
+use Rattle.index_core.specs.Histories.{live_docs_updated, merge_begin, merge_end, merge_drop}
+use Rattle.index_core.specs.Histories.{view_end, Record, View, frozen, drawn, begun_views}
+use Rattle.index_core.specs.Histories.{open_views, ended_view}
+use Rattle.index_core.specs.Records.{current}
+use Rattle.index_core.specs.Generations.{is_built}
+use Rattle.index_core.specs.Merges.{size_of}
 use Rattle.index_core.specs.LegalHistories.{IsLegal}
+use Rattle.index_core.specs.PlannedMerges.{IsWithinSegment}
+use Rattle.index_core.specs.CurrentPieces.{is_segment}
+use Rattle.index_core.specs.EndedMerges.{merged_pieces}
 use Rattle.index_core.specs.Keeping.{IsPlain, AreCurrent, with_piece, with_segment, with_live_docs}
 use Rattle.index_core.specs.Keeping.{has_unbuilt, has_behind}
 use Rattle.index_core.specs.HeldGenerations.{AreHolds, RisesFrom}
 use Rattle.index_core.specs.HeldEvents.{AreDrawn}
-
--- ---- batches and the table of current pieces
-
--- a generation: the place of its batch, and its segment and live docs where it has them
-pub record PlainSlot : Type 0 where
-  pub generation : ℕ
-  pub at : ℕ
-  pub documents : Option (List PlainNumbered)
-  pub live_docs : Option (List Bool)
-  pub applied : ℕ
-
--- no batch
-abbrev pub no_batch : PlainBatch
-no_batch = record { from = 0; upto = 0; operations = [] }
-
--- what a generation is made of: its segment, or else the batch at a place
-abbrev pub body_at : List PlainBatch → ℕ → Option (List PlainNumbered) → PieceBody
-body_at batches at None = unbuilt (slice_index_or batches at no_batch)
-body_at batches at (Some documents) = segment documents
-
--- a slot as a piece
-abbrev pub slot_piece : List PlainBatch → PlainSlot → PlainPiece
-slot_piece batches s = record {
-  generation = s.generation;
-  body = body_at batches s.at s.documents;
-  live_docs = s.live_docs;
-  applied = s.applied;
-}
-
--- each slot's place has a batch
-abbrev pub HaveBatches : List PlainBatch → List PlainSlot → Type 0
-HaveBatches batches slots = AllByRecursion (λ s. s.at < length batches) slots
-
--- the operations of batches, in order
-abbrev pub batched : List PlainBatch → List PlainOp
-batched batches = flat_map (λ b. b.operations) batches
-
--- batches of consecutive operations, the first of which has the number n
-abbrev pub AreBatchesFrom : ℕ → List PlainBatch → Type 0
-AreBatchesFrom n [] = ⊤
-AreBatchesFrom n (b ∷ later) =
-    (b.from ≡ n) × (b.upto + 1 ≡ n + length b.operations)
-    × AreBatchesFrom (n + length b.operations) later
-
--- slots, where that of a generation is changed
-abbrev pub with_slot : ℕ → (PlainSlot → PlainSlot) → List PlainSlot → List PlainSlot
-with_slot g change slots = map (λ s. if nat_eq s.generation g then change s else s) slots
-
--- whether the slot of a generation passes a test
-abbrev pub has_slot : ℕ → (PlainSlot → Bool) → List PlainSlot → Bool
-has_slot g test slots = list_any (λ s. nat_eq s.generation g && test s) slots
-
--- whether it has no segment
-abbrev pub lacks_segment : PlainSlot → Bool
-lacks_segment s = is_none s.documents
-
--- it has its segment
-abbrev pub slot_built : List PlainNumbered → PlainSlot → PlainSlot
-slot_built documents s = record s { documents = Some documents }
-
--- whether it has a segment, to which deletes are applied through fewer operations
-abbrev pub lacks_deletes : ℕ → PlainSlot → Bool
-lacks_deletes upto s = is_some s.documents && nat_lt s.applied upto
-
--- deletes are applied to it through so many operations
-abbrev pub slot_lived : List Bool → ℕ → PlainSlot → PlainSlot
-slot_lived live_docs upto s = record s { live_docs = Some live_docs; applied = upto }
+use Rattle.index_core.specs.Slots.{batched, AreBatchesFrom, piece_size}
+use Rattle.index_core.specs.OwnLists.{PlainLists, no_lists, with_view_list, without_view_list}
+use Rattle.index_core.specs.OwnLists.{with_merge_list, without_merge_list, AreLists}
 
 -- ---- the store
 
@@ -105,14 +50,15 @@ is_closed None = false
 is_closed (Some batch) = true
 
 -- a closed batch holds all that is buffered, is numbered, and has its places among the batches, the
--- slots and what is held
+-- slots and what is held, beside those of what open merges bring
 abbrev pub IsClosed : ℕ → Option PlainBatch → List Op
-    → (batches batch_places slots slot_places spare : ℕ) → Type 0
-IsClosed frozen None buffered batches batch_places slots slot_places spare = ⊤
-IsClosed frozen (Some b) buffered batches batch_places slots slot_places spare =
-    (buffered ≡ []) × (0 < length b.operations) × (b.from ≡ frozen + 1)
-    × (b.upto ≡ frozen + length b.operations)
-    × (batches < batch_places) × (slots < slot_places) × (0 < spare)
+    → (batches batch_places slots slot_places spare merging : ℕ) → Type 0
+IsClosed frozen None buffered batches batch_places slots slot_places spare merging =
+    (slots + merging ≤ slot_places) × (merging ≤ spare)
+IsClosed frozen (Some b) buffered batches batch_places slots slot_places spare merging =
+    (slots + merging < slot_places) × (merging < spare)
+    × (buffered ≡ []) × (0 < length b.operations) × (b.from ≡ frozen + 1)
+    × (b.upto ≡ frozen + length b.operations) × (batches < batch_places)
 
 -- the fields as plain data: all that is buffered may be closed, so many operations are frozen, so
 -- many generations were drawn, so many views were begun and are open, and so many events fit
@@ -124,6 +70,7 @@ pub record Stored : Type 0 where
   pub buffer : List PlainOp
   pub closed : Bool
   pub held : List Held
+  pub lists : PlainLists
   pub frozen_count : ℕ
   pub drawn_count : ℕ
   pub begun_count : ℕ
@@ -139,6 +86,7 @@ empty_store = record {
   buffer = [];
   closed = false;
   held = [];
+  lists = no_lists;
   frozen_count = 0;
   drawn_count = 0;
   begun_count = 0;
@@ -149,6 +97,12 @@ empty_store = record {
 -- with another number of places for events
 abbrev pub with_places : ℕ → Stored → Stored
 with_places places s = record s { places = places }
+
+-- with other numbers of places for the lists of views and of merges
+abbrev pub with_list_places : ℕ → ℕ → Stored → Stored
+with_list_places views merges s =
+    let ls = s.lists in
+    record s { lists = record ls { view_places = views; merge_places = merges } }
 
 -- with what is buffered as a batch, or not
 abbrev pub with_closed : Bool → Stored → Stored
@@ -225,17 +179,21 @@ abbrev pub viewing : ℕ → List ℕ → Stored → Stored
 viewing caller generations s = record s {
   history = s.history ++ begin caller (s.begun_count + 1) s.frozen_count generations ∷ [];
   held = map (with_holder generations) s.held;
+  lists = with_view_list (s.begun_count + 1) generations s.lists;
   begun_count = s.begun_count + 1;
   open_count = s.open_count + 1;
 }
 
 -- a view of these generations has ended
 abbrev pub ending : ℕ → ℕ → List ℕ → Stored → Stored
-ending caller view generations s = record s {
-  history = s.history ++ view_end caller view [] ∷ [];
-  held = after_release generations s.held;
-  open_count = s.open_count - 1;
-}
+ending caller view generations s =
+    let held_after = after_release generations s.held in
+    record s {
+      history = s.history ++ view_end caller view (given_up s.held held_after) ∷ [];
+      held = held_after;
+      lists = without_view_list view s.lists;
+      open_count = s.open_count - 1;
+    }
 
 -- one event more, and other pieces
 abbrev pub noting : HistoryEvent → List PlainPiece → Stored → Stored
@@ -254,6 +212,66 @@ living caller g live_docs upto s =
     then noting (live_docs_updated caller g upto)
     (with_piece g (with_live_docs live_docs upto) s.pieces) s
     else s
+
+-- the sizes of all pieces with their segments
+abbrev pub sizes_of : Stored → List Size
+sizes_of s =
+    map (piece_size (flat_map (λ l. l.generations) s.lists.merges))
+    (filter (λ p. is_segment p.body) s.pieces)
+
+-- each generation that may be merged is within a segment's limits
+abbrev pub AreSizesWithin : Record → Type 0
+AreSizesWithin r =
+    AllByRecursion IsWithinSegment (map (size_of r) (filter (is_built r) (current r)))
+
+-- a merge of these generations has begun
+abbrev pub merging : ℕ → List ℕ → Stored → Stored
+merging caller generations s = record s {
+  history = s.history ++ merge_begin caller (s.lists.merges_begun + 1) generations ∷ [];
+  held = map (with_holder generations) s.held;
+  lists = with_merge_list generations s.lists;
+}
+
+-- one was dropped
+abbrev pub dropping : ℕ → ℕ → List ℕ → Stored → Stored
+dropping caller merge generations s = record s {
+  history = s.history ++ merge_drop caller merge ∷ [];
+  held = after_release generations s.held;
+  lists = without_merge_list merge s.lists;
+}
+
+-- one has ended, and brought nothing
+abbrev pub retiring : ℕ → ℕ → List ℕ → Stored → Stored
+retiring caller merge generations s =
+    let held_after = after_retire generations s.held in
+    record s {
+      history = s.history ++ merge_end caller merge None (given_up s.held held_after) ∷ [];
+      pieces = merged_pieces generations [] s.pieces;
+      held = held_after;
+      lists = without_merge_list merge s.lists;
+    }
+
+-- the piece that one brings
+abbrev pub brought : ℕ → List PlainNumbered → Stored → PlainPiece
+brought upto documents s = record {
+  generation = s.drawn_count + 1;
+  body = segment documents;
+  live_docs = None;
+  applied = upto;
+}
+
+-- one has ended, and brought these documents
+abbrev pub bringing : ℕ → ℕ → ℕ → List ℕ → List PlainNumbered → Stored → Stored
+bringing caller merge upto generations documents s =
+    let held_after = after_retire generations s.held in
+    record s {
+      history = s.history
+          ++ merge_end caller merge (Some (s.drawn_count + 1)) (given_up s.held held_after) ∷ [];
+      pieces = merged_pieces generations (brought upto documents s ∷ []) s.pieces;
+      held = with_current (s.drawn_count + 1) held_after;
+      lists = without_merge_list merge s.lists;
+      drawn_count = s.drawn_count + 1;
+    }
 
 -- the record that it keeps: the journal is what the batches hold, and what is buffered
 abbrev pub record_of : Stored → Record
@@ -275,16 +293,19 @@ pub record AreViews (history : List HistoryEvent) (begun opened : ℕ) : Type 0 
   pub open_count : length (open_views history) ≡ opened
   pub most_open : opened ≤ MOST_OPEN_VIEWS
 
--- what holds of the batches and the counts
+-- what holds of the batches and the counts; there is a generation for each open merge and for each
+-- operation that may come
 pub record AreFields (k : Stored) : Type 0 where
   pub numbered : AreBatchesFrom 1 k.batches
   pub frozen_upto_last : frozen k.history ≡ k.frozen_count
   pub frozen_operations : length (batched k.batches) ≡ k.frozen_count
   pub drawn_generations : length (drawn k.history) ≡ k.drawn_count
-  pub few_drawn : k.drawn_count ≤ k.frozen_count
+  pub few_drawn : k.drawn_count + k.lists.merges_open + MOST_OPERATIONS
+      ≤ MOST_GENERATIONS + k.frozen_count
   pub most_operations : k.frozen_count + length k.buffer ≤ MOST_OPERATIONS
   pub views : AreViews k.history k.begun_count k.open_count
-  pub room : length k.history + k.open_count ≤ k.places
+  pub own_lists : AreLists k.history k.lists
+  pub room : length k.history + k.open_count + k.lists.merges_open ≤ k.places
 
 -- what holds of what is held: it is as the record says, and views have drawn generations, rising
 pub record AreHeld (r : Record) (held : List Held) : Type 0 where

@@ -1,20 +1,23 @@
 -- What always holds of the current pieces, and how they change. No public clause cites it. Source:
 -- this project's own.
-use Rattle.std.specs.Prelude.{◌≡◌, ◌≤◌, ◌<◌, ℕ, ◌+◌, Bool, not, nat_eq, nat_lt, nat_le, ◌&&◌}
+use Rattle.std.specs.Prelude.{◌≡◌, ◌≤◌, ◌<◌, ⊤, ℕ, ◌+◌, Bool, not, nat_eq, nat_lt, nat_le, ◌&&◌}
 use Rattle.std.specs.Prelude.{if◌then◌else◌, min, Some, None, List, [], ◌∷◌, length, map, filter}
 use Rattle.std.specs.Prelude.{drop}
 use Rattle.std.specs.List.{AllByRecursion, filter_map, list_any}
-use Rattle.sg_paths.specs.Operations.{PlainNumbered, PlainBatch}
+use Rattle.sg_paths.specs.Operations.{PlainNumbered, PlainBatch, documents_from}
 use Rattle.sg_paths.specs.LiveDocuments.{is_deleted, live_documents}
 use Rattle.segment.specs.Items.{HaveSameItems}
 use Rattle.segment.specs.Pieces.{unbuilt, segment, PlainPiece}
 use Rattle.segment.specs.Views.{all_documents}
 use Rattle.index_core.specs.declared.limits.TheConstants.{MOST_OPERATIONS}
-use Rattle.index_core.specs.Histories.{Record, frozen_upto, built_generation}
+use Rattle.index_core.specs.Histories.{Record, Merge, is_among, frozen_upto, built_generation}
+use Rattle.index_core.specs.Histories.{closed_merge}
 use Rattle.index_core.specs.Records.{accepted, frozen, drawn, next_generation, begun_merges}
-use Rattle.index_core.specs.Records.{current}
+use Rattle.index_core.specs.Records.{next_merge, open_merges, current}
 use Rattle.index_core.specs.CurrentPieces.{is_segment, IsPieceOf}
 use Rattle.index_core.specs.HeldGenerations.{RisesFrom}
+use Rattle.index_core.specs.HeldEvents.{AreInUse}
+use Rattle.index_core.specs.EndedMerges.{holding}
 
 -- the pieces are the current generations in order, each is what the record says, and the live ones
 -- of all their documents are the live ones of what is frozen, each once
@@ -25,11 +28,32 @@ pub record AreCurrent (r : Record) (pieces : List PlainPiece) : Type 0 where
   pub live : HaveSameItems (filter (λ d. not (is_deleted r.journal (frozen r) d))
       (all_documents pieces)) (live_documents r.journal (frozen r))
 
--- a record without merges, whose freezes are of accepted operations
+-- merges with consecutive numbers, the first of which is n
+abbrev pub AreMergesFrom : ℕ → List Merge → Type 0
+AreMergesFrom n [] = ⊤
+AreMergesFrom n (m ∷ later) = (m.merge ≡ n) × AreMergesFrom (n + 1) later
+
+-- each document is held by at most one current generation
+abbrev pub AreHeldOnce : Record → Type 0
+AreHeldOnce r = AllByRecursion (λ d. holding r d (current r) ≤ 1) (documents_from 1 r.journal)
+
+-- Merges are numbered, of frozen operations, with rising generations; those that ended or were
+-- dropped were begun. The generations of the open ones are current, each in one of them, and each
+-- document is held once.
+pub record AreMerges (r : Record) : Type 0 where
+  pub numbers : AreMergesFrom 1 (begun_merges r)
+  pub closed_before : AllByRecursion (λ n. n < next_merge r) (filter_map closed_merge r.history)
+  pub within : AllByRecursion (λ m. m.upto ≤ frozen r) (begun_merges r)
+  pub rise : AllByRecursion (λ m. RisesFrom 0 m.generations) (begun_merges r)
+  pub in_use : AllByRecursion (λ m. AreInUse r m.generations) (open_merges r)
+  pub apart : (g : ℕ) → length (filter (λ m. is_among g m.generations) (open_merges r)) ≤ 1
+  pub once : AreHeldOnce r
+
+-- a record whose freezes are of accepted operations, and whose generations were drawn in turn
 pub record IsPlain (r : Record) : Type 0 where
   pub numbered : length r.journal ≡ accepted r
-  pub unmerged : begun_merges r ≡ []
-  pub frozen_before : AllByRecursion (λ n. n ≤ length r.journal) (filter_map frozen_upto r.history)
+  pub merges : AreMerges r
+  pub frozen_before : AllByRecursion (λ n. n ≤ frozen r) (filter_map frozen_upto r.history)
   pub frozen_within : frozen r ≤ length r.journal
   pub drawn_before : AllByRecursion (λ g. g < next_generation r) (drawn r)
   pub built_before : AllByRecursion (λ g. g < next_generation r)

@@ -12,4 +12,11 @@ pub mod HeldEvents
 pub mod EndedMerges
 pub mod Keeping
 pub mod Calls
+pub mod MergeCalls
+pub mod Slots
+pub mod OwnLists
 pub mod Fields
+pub mod MergedPieces
+pub mod PlannedMerges
+pub mod WorkedMerges
+pub mod LegalLaws

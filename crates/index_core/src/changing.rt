@@ -1,11 +1,13 @@
 //! Changes of the slot of a generation.
-ghost use Rattle.std.specs.Prelude.{◌≡◌, nat_eq, if◌then◌else◌, map, vec_len};
+ghost use Rattle.std.specs.Prelude.{◌≡◌, ◌≤◌, nat_eq, if◌then◌else◌, map, vec_len};
 ghost use Rattle.std.specs.List.{position_from};
+ghost use Rattle.std.specs.List.Sorted.{IsNonDecreasing};
 ghost use Rattle.std.specs.Vec.{vec_capacity};
 ghost use Rattle.index_core.specs.HeldGenerations.{RisesFrom};
-ghost use Rattle.index_core.specs.Fields.{with_slot, has_slot, lacks_segment, slot_built};
-ghost use Rattle.index_core.specs.Fields.{lacks_deletes, slot_lived};
+ghost use Rattle.index_core.specs.Slots.{with_slot, has_slot, lacks_segment, slot_built};
+ghost use Rattle.index_core.specs.Slots.{lacks_deletes, slot_lived, without_slots};
 
+use crate::searching::is_among;
 use crate::slot::Slot;
 use seg_live::Live;
 use segment::Segment;
@@ -84,4 +86,21 @@ pub(crate) fn live_slot(
         Some(at) => put_live(&mut slots[at], live, applied),
         None => false,
     }
+}
+
+/// Takes the slots of these generations away.
+pub(crate) fn remove_slots(slots: &mut Vec<Slot>, gens: &[u32])
+    requires { IsNonDecreasing gens.now }
+    ensures slots { slots.new.items ≡ without_slots gens.now slots.old.items }
+    ensures len { vec_len slots.new ≤ vec_len slots.old }
+    ensures places { vec_capacity slots.new ≡ vec_capacity slots.old }
+{
+    let mut kept = 0usize;
+    for at in 0..slots.len() {
+        if !is_among(slots[at].generation, gens) {
+            slots.swap(kept, at);
+            kept += 1;
+        }
+    }
+    slots.truncate(kept);
 }

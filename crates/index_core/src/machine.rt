@@ -1,28 +1,37 @@
 //! The calls of the index.
 ghost use Rattle.std.specs.Prelude.{◌≡◌, ◌<◌, ◌≤◌, ◌+◌, [], ◌∷◌, ◌++◌, IfOk, IfErr};
-ghost use Rattle.std.specs.Prelude.{OnOk, OnErr, true, length, map, Contains};
+ghost use Rattle.std.specs.Prelude.{OnOk, OnErr, true, Some, option_map, length, map, Contains};
+ghost use Rattle.std.specs.Option.{IfSome};
+ghost use Rattle.std.specs.List.Sorted.{IsStrictlyIncreasing};
 ghost use Rattle.sg_paths.specs.Operations.{plain_op};
 ghost use Rattle.segment.specs.Pieces.{live_docs_at};
 ghost use Rattle.segment.specs.Views.{AreBuildable};
+ghost use Rattle.merge_work.specs.Merging.{AreMergeable, unless_empty};
 ghost use Rattle.index_core.specs.Histories.{event_of};
-ghost use Rattle.index_core.specs.Records.{accepted, frozen, buffered, open_views};
+ghost use Rattle.index_core.specs.Records.{accepted, frozen, buffered, open_views, open_merges};
 ghost use Rattle.index_core.specs.Generations.{documents_of};
-ghost use Rattle.index_core.specs.LegalHistories.{IsLegal};
+ghost use Rattle.index_core.specs.Merges.{merge_plan};
+ghost use Rattle.index_core.specs.LegalHistories.{IsLegal, merged_documents};
 ghost use Rattle.index_core.specs.Calls.{empty_record, after_accept, after_freeze, after_begin};
 ghost use Rattle.index_core.specs.Calls.{after_end, begun_by, frozen_generation, released_by_end};
 ghost use Rattle.index_core.specs.Calls.{RefusesOperation, RefusesView};
+ghost use Rattle.index_core.specs.MergeCalls.{merge_of, merge_begun_by, after_begin_merge};
+ghost use Rattle.index_core.specs.MergeCalls.{released_by_merge, after_commit, after_drop};
+ghost use Rattle.index_core.specs.MergeCalls.{without_merge, AreMergeOf};
+ghost use Rattle.index_core.specs.Fields.{AreSizesWithin};
 ghost use Rattle.index_core.specs.OpenViews.{view_of, without};
 ghost use Rattle.index_core.specs.CurrentPieces.{AreOf, is_unbuilt, after_built, is_behind};
 ghost use Rattle.index_core.specs.CurrentPieces.{after_lived};
 
 use crate::event::Event;
 use crate::limits::{MOST_OPEN_VIEWS, MOST_OPERATIONS};
+use crate::own_list::TwoLists;
 use crate::parts::CurrentParts;
 use crate::refusal::{Refused, ViewError, Why};
 use crate::store::Store;
 use index_holds::Freed;
 use seg_live::Live;
-use segment::{Segment, ViewParts};
+use segment::{MergeParts, Segment, ViewParts};
 use sg_paths::Op;
 use std::alloc::{AllocError, Global};
 use std::marker::Model;
@@ -105,8 +114,8 @@ impl Core {
                 why: Why::Full { count },
             });
         }
-        // A place for the accept and one for a freeze, beside those that open views have reserved.
-        let places = self.store.opened() as usize + 2;
+        // A place for the accept and one for a freeze, beside those that are reserved.
+        let places = self.store.reserved() + 2;
         let Ok(()) = self.store.make_room(places) else {
             return Err(Refused::out_of_memory(op));
         };
@@ -129,8 +138,8 @@ impl Core {
         if self.store.accepted() == self.store.frozen() {
             return Ok(None);
         }
-        // A place for the freeze, beside those that open views have reserved.
-        let places = self.store.opened() as usize + 1;
+        // A place for the freeze, beside those that are reserved.
+        let places = self.store.reserved() + 1;
         self.store.reserve(places)?;
         self.store.close()?;
         self.store.freeze(caller);
@@ -153,8 +162,8 @@ impl Core {
         ensures views { open_views self.new ≡ open_views self.old }
         ensures legal { IsLegal self.new }
     {
-        // A place for the event, beside those that open views have reserved.
-        let places = self.store.opened() as usize + 1;
+        // A place for the event, beside those that are reserved.
+        let places = self.store.reserved() + 1;
         self.store.reserve(places)?;
         let done = self.store.build(caller, generation, segment);
         Ok(done)
@@ -179,8 +188,8 @@ impl Core {
         ensures views { open_views self.new ≡ open_views self.old }
         ensures legal { IsLegal self.new }
     {
-        // A place for the event, beside those that open views have reserved.
-        let places = self.store.opened() as usize + 1;
+        // A place for the event, beside those that are reserved.
+        let places = self.store.reserved() + 1;
         self.store.reserve(places)?;
         let done = self.store.live(caller, generation, live, applied);
         Ok(done)
@@ -225,12 +234,13 @@ impl Core {
         if opened >= MOST_OPEN_VIEWS {
             return Err(ViewError::TooMany { count: opened });
         }
-        // A place for a freeze, for the begin and for its end, beside those of open views.
-        self.store.reserve(opened as usize + 3)?;
+        // A place for a freeze, for the begin and for its end, beside those that are reserved.
+        let places = self.store.reserved() + 3;
+        self.store.reserve(places)?;
         self.store.close()?;
         let parts = self.store.share()?;
         // No step after the first event can fail.
-        let Ok(gens) = self.store.held(&parts) else {
+        let Ok(lists) = self.store.view_lists(&parts) else {
             let ViewParts {
                 view: _,
                 upto: _,
@@ -240,8 +250,9 @@ impl Core {
             } = parts;
             return Err(ViewError::Memory);
         };
+        let TwoLists { event, own } = lists;
         self.store.freeze_all(caller);
-        self.store.begin(caller, gens);
+        self.store.begin(caller, event, own);
         Ok(parts)
     }
 
@@ -263,5 +274,125 @@ impl Core {
             gens,
         } = parts;
         self.store.end(caller, view, gens.into_vec())
+    }
+
+    /// Begins the merge that is planned: one shared owner a piece, over what is frozen. `None`
+    /// where none is, without an event. Sorts the generations of open merges, looks each current
+    /// one up among them, and goes ten times over the sizes. Reserves what the end of the merge
+    /// takes. An error is want of memory, or of a generation below 2^31, which no run comes to.
+    pub fn begin_merge(&mut self, caller: u32) -> Result<Option<MergeParts>, AllocError>
+        // The merge.
+        ensures merge { IfOk result (λ found.
+            option_map (merge_of caller) found ≡ merge_begun_by caller self.old) }
+        ensures parts { IfOk result (λ found. IfSome found (AreMergeOf self.new)) }
+        ensures mergeable { IfOk result (λ found. IfSome found AreMergeable) }
+        ensures begun { IfOk result (λ found. IfSome found (λ p.
+            Contains (open_merges self.new) (merge_of caller p))) }
+
+        // What an Ok appends, and what an Err leaves.
+        ensures ok { OnOk result (self.new ≡ after_begin_merge caller self.old) }
+        ensures err { OnErr result (self.new ≡ self.old) }
+
+        // After both.
+        ensures views { open_views self.new ≡ open_views self.old }
+        ensures legal { IsLegal self.new }
+    {
+        let planned = self.store.plan()?;
+        match planned {
+            Some(gens) => self.begin_planned(caller, gens),
+            None => Ok(None),
+        }
+    }
+
+    /// Begins the merge of the planned generations.
+    fn begin_planned(
+        &mut self,
+        caller: u32,
+        gens: Vec<u32>,
+    ) -> Result<Option<MergeParts>, AllocError>
+        requires plan { merge_plan self.old ≡ Some gens.items }
+        requires rising { IsStrictlyIncreasing gens.items }
+        requires within { AreSizesWithin self.old }
+        ensures merge { IfOk result (λ found.
+            option_map (merge_of caller) found ≡ merge_begun_by caller self.old) }
+        ensures parts { IfOk result (λ found. IfSome found (AreMergeOf self.new)) }
+        ensures mergeable { IfOk result (λ found. IfSome found AreMergeable) }
+        ensures begun { IfOk result (λ found. IfSome found (λ p.
+            Contains (open_merges self.new) (merge_of caller p))) }
+        ensures ok { OnOk result (self.new ≡ after_begin_merge caller self.old) }
+        ensures err { OnErr result (self.new ≡ self.old) }
+        ensures views { open_views self.new ≡ open_views self.old }
+        ensures legal { IsLegal self.new }
+    {
+        // A place for the begin and for its end, beside those that are reserved.
+        let places = self.store.reserved() + 2;
+        self.store.reserve(places)?;
+        let parts = self.store.share_sources(gens)?;
+        let Ok(()) = self.store.merge(caller, parts.gens.items()) else {
+            let MergeParts {
+                merge: _,
+                upto: _,
+                pieces: _,
+                batches: _,
+                gens: _,
+            } = parts;
+            return Err(AllocError);
+        };
+        Ok(Some(parts))
+    }
+
+    /// Ends a merge with the segment of what it keeps, or with none, and answers the generations
+    /// that nothing references any more. Takes no memory: what it needs is reserved when the merge
+    /// begins.
+    pub fn commit_merge(
+        &mut self,
+        caller: u32,
+        parts: MergeParts,
+        segment: Option<Arc<Segment>>,
+    ) -> Freed
+        requires open { Contains (open_merges self.old) (merge_of caller parts) }
+        requires segment { option_map (λ s. s.value) segment
+            ≡ unless_empty (merged_documents self.old (merge_of caller parts)) }
+        ensures freed { result.gens.items
+            ≡ released_by_merge caller (merge_of caller parts) self.old }
+        ensures ok { self.new ≡ after_commit caller (merge_of caller parts) self.old }
+        ensures ended { open_merges self.new
+            ≡ without_merge parts.number (open_merges self.old) }
+        ensures views { open_views self.new ≡ open_views self.old }
+        ensures legal { IsLegal self.new }
+    {
+        let MergeParts {
+            merge,
+            upto,
+            pieces: _,
+            batches: _,
+            gens,
+        } = parts;
+        match segment {
+            Some(segment) => self
+                .store
+                .bring(caller, merge, upto, gens.into_vec(), segment),
+            None => self.store.retire(caller, merge, gens.into_vec()),
+        }
+    }
+
+    /// Gives a merge up; its generations stay current. Takes no memory: the place of its event is
+    /// reserved when the merge begins.
+    pub fn drop_merge(&mut self, caller: u32, parts: MergeParts)
+        requires { Contains (open_merges self.old) (merge_of caller parts) }
+        ensures ok { self.new ≡ after_drop caller (merge_of caller parts) self.old }
+        ensures ended { open_merges self.new
+            ≡ without_merge parts.number (open_merges self.old) }
+        ensures views { open_views self.new ≡ open_views self.old }
+        ensures legal { IsLegal self.new }
+    {
+        let MergeParts {
+            merge,
+            upto: _,
+            pieces: _,
+            batches: _,
+            gens,
+        } = parts;
+        self.store.drop_merge(caller, merge, gens.into_vec());
     }
 }

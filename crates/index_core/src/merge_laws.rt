@@ -1,9 +1,15 @@
 //! What holds where merges begin and end, and where views end beside them.
 ghost use Rattle.index_core.specs.EndedMerges.{CurrentAfterMerge, EndedMergesBring};
-ghost use Rattle.index_core.specs.EndedMerges.{GenerationsStay, MergedByNumber};
+ghost use Rattle.index_core.specs.EndedMerges.{GenerationsStay, LegalIsKnown, MergedByNumber};
 ghost use Rattle.index_core.specs.EndedMerges.{MergedPiecesKeepLiveDocuments, StillOneHolds};
 ghost use Rattle.index_core.specs.HeldEvents.{CountsFollowEvents};
 ghost use Rattle.index_core.specs.HeldGenerations.{EndedViewsRelease};
+ghost use Rattle.index_core.specs.LegalLaws.{CurrentGenerationsHaveAll};
+ghost use Rattle.index_core.specs.LegalLaws.{GenerationsKeepTheirDocuments, PartsStay};
+ghost use Rattle.index_core.specs.LegalLaws.{ReleasedStayReleased, ViewsSeeTheirPrefix};
+ghost use Rattle.index_core.specs.MergedPieces.{MergesKeepPieces};
+ghost use Rattle.index_core.specs.PlannedMerges.{PlannedMergesFit};
+ghost use Rattle.index_core.specs.WorkedMerges.{PlannedMergesCanBeWorked, WorkedMergesBring};
 
 /// Where a view ends, exactly what nothing references any more is given up.
 pub fn ended_views_release()
@@ -13,6 +19,11 @@ pub fn ended_views_release()
 /// What is held after each other event is as the record says, and so is what is given up.
 pub fn counts_follow_events()
     ensures { CountsFollowEvents }
+{}
+
+/// In a legal record each merge that ended was begun.
+pub fn legal_is_known()
+    ensures { LegalIsKnown }
 {}
 
 /// An event leaves what other generations hold than the one that it draws.
@@ -43,4 +54,49 @@ pub fn current_after_merge()
 /// Each document stays in at most one of them.
 pub fn still_one_holds()
     ensures { StillOneHolds }
+{}
+
+/// The current pieces stay what the record says where merges begin, are dropped, and end.
+pub fn merges_keep_pieces()
+    ensures { MergesKeepPieces }
+{}
+
+/// What the plan gives fits into one segment.
+pub fn planned_merges_fit()
+    ensures { PlannedMergesFit }
+{}
+
+/// So the parts of a merge that it begins can be worked.
+pub fn planned_merges_can_be_worked()
+    ensures { PlannedMergesCanBeWorked }
+{}
+
+/// What the work of a merge brings is what each later record says that the merge keeps.
+pub fn worked_merges_bring()
+    ensures { WorkedMergesBring }
+{}
+
+/// In a legal record each view sees its prefix, whatever came after its begin.
+pub fn views_see_their_prefix()
+    ensures { ViewsSeeTheirPrefix }
+{}
+
+/// The current generations have each live document of what is frozen, once.
+pub fn current_generations_have_all()
+    ensures { CurrentGenerationsHaveAll }
+{}
+
+/// A generation holds what it held when it was drawn.
+pub fn generations_keep_their_documents()
+    ensures { GenerationsKeepTheirDocuments }
+{}
+
+/// What is released isn't referenced, and never again.
+pub fn released_stay_released()
+    ensures { ReleasedStayReleased }
+{}
+
+/// The parts of a view are those of each longer journal.
+pub fn parts_stay()
+    ensures { PartsStay }
 {}

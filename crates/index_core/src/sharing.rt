@@ -1,9 +1,13 @@
 //! What a view gets of the slots and the batches.
-ghost use Rattle.std.specs.Prelude.{◌≡◌, ◌≤◌, ◌<◌, IfOk, option_map, map, drop, length};
+ghost use Rattle.std.specs.Prelude.{◌≡◌, ◌≤◌, IfOk, OnOk, option_map, map, drop, length};
+ghost use Rattle.std.specs.Prelude.{◌++◌, [], ◌∷◌};
+ghost use Rattle.std.specs.List.Sorted.{IsNonDecreasing};
 ghost use Rattle.segment.specs.Pieces.{body_of};
 ghost use Rattle.index_core.specs.Keeping.{least_applied, known_batches};
-ghost use Rattle.index_core.specs.Fields.{body_at, slot_piece, HaveBatches};
+ghost use Rattle.index_core.specs.EndedMerges.{sources};
+ghost use Rattle.index_core.specs.Slots.{body_at, slot_piece, HasBatch, HaveBatches};
 
+use crate::searching::is_among;
 use crate::slot::Slot;
 use seg_live::Live;
 use segment::{Kind, Piece};
@@ -12,7 +16,7 @@ use std::alloc::{AllocError, Global};
 use std::sync::Arc;
 
 fn shared_kind(slot: &Slot, batches: &[Arc<Batch>]) -> Result<Kind, AllocError>
-    requires { slot.now.at < length batches.now }
+    requires { HasBatch (map (λ b. b.value) batches.now) slot.now }
     ensures { IfOk result (λ k. body_of k
         ≡ body_at (map (λ b. b.value) batches.now) slot.now.at slot.now.documents) }
 {
@@ -33,7 +37,7 @@ fn shared_live(live: &Option<Arc<Live>>) -> Result<Option<Arc<Live>>, AllocError
 }
 
 fn shared_piece(slot: &Slot, batches: &[Arc<Batch>]) -> Result<Piece, AllocError>
-    requires { slot.now.at < length batches.now }
+    requires { HasBatch (map (λ b. b.value) batches.now) slot.now }
     ensures { IfOk result (λ p. p ≡ slot_piece (map (λ b. b.value) batches.now) slot.now) }
 {
     Ok(Piece {
@@ -56,6 +60,43 @@ pub(crate) fn shared_pieces(
     let mut copies = Vec::with_capacity(alloc, slots.len())?;
     for slot in slots {
         copies.push(shared_piece(slot, batches)?)?;
+    }
+    Ok(copies)
+}
+
+// One more, if it is of these generations.
+fn share_source(
+    copies: &mut Vec<Piece>,
+    slot: &Slot,
+    batches: &[Arc<Batch>],
+    gens: &[u32],
+) -> Result<(), AllocError>
+    requires batch { HasBatch (map (λ b. b.value) batches.now) slot.now }
+    requires rising { IsNonDecreasing gens.now }
+    ensures { OnOk result (copies.new.items ≡ copies.old.items
+        ++ sources gens.now (map (slot_piece (map (λ b. b.value) batches.now)) (slot.now ∷ []))) }
+{
+    if is_among(slot.generation, gens) {
+        copies.push(shared_piece(slot, batches)?)?;
+    }
+    Ok(())
+}
+
+/// Those of these generations.
+pub(crate) fn shared_sources(
+    alloc: Global,
+    slots: &[Slot],
+    batches: &[Arc<Batch>],
+    gens: &[u32],
+) -> Result<Vec<Piece>, AllocError>
+    requires batches { HaveBatches (map (λ b. b.value) batches.now) slots.now }
+    requires rising { IsNonDecreasing gens.now }
+    ensures { IfOk result (λ v. v.items
+        ≡ sources gens.now (map (slot_piece (map (λ b. b.value) batches.now)) slots.now)) }
+{
+    let mut copies = Vec::with_capacity(alloc, gens.len())?;
+    for slot in slots {
+        share_source(&mut copies, slot, batches, gens)?;
     }
     Ok(copies)
 }

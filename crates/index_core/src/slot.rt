@@ -19,7 +19,7 @@ pub(crate) struct Slot {
 
 impl Model for Slot {
     ghost use Rattle.std.specs.Prelude.{option_map};
-    ghost use Rattle.index_core.specs.Fields.{PlainSlot};
+    ghost use Rattle.index_core.specs.Slots.{PlainSlot};
 
     ghost Value = { PlainSlot };
 

@@ -1,7 +1,7 @@
 -- The slot of the generation is changed at its place, where it passes.
 use Rattle.std.proofs.Common.{◌∙◌, sym, ap, arith}
 use Rattle.std.specs.List.{position_from}
-use Rattle.index_core.specs.Fields.{lacks_segment, slot_built}
+use Rattle.index_core.specs.Slots.{lacks_segment, slot_built}
 use Rattle.index_core.proofs.SlotLemmas.{is_of, position_within, slot_changed, slot_missing}
 use Rattle.index_core.proofs.changing.build_slot.Goals as goal
 

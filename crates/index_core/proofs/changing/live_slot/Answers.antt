@@ -1,7 +1,7 @@
 -- The slot of the generation is changed at its place, where it passes.
 use Rattle.std.proofs.Common.{◌∙◌, sym, ap, arith}
 use Rattle.std.specs.List.{position_from}
-use Rattle.index_core.specs.Fields.{lacks_deletes, slot_lived}
+use Rattle.index_core.specs.Slots.{lacks_deletes, slot_lived}
 use Rattle.index_core.proofs.SlotLemmas.{is_of, position_within, slot_changed, slot_missing}
 use Rattle.index_core.proofs.changing.live_slot.Goals as goal
 

@@ -5,7 +5,7 @@ use Rattle.index_core.specs.Histories.{Record}
 use Rattle.index_core.specs.Records.{open_views}
 use Rattle.index_core.specs.Calls.{after_accept}
 use Rattle.index_core.specs.Fields.{Stored, IsKept, record_of}
-use Rattle.index_core.proofs.KeptLemmas.{with_room, Leaves, new_generation}
+use Rattle.index_core.proofs.KeptLemmas.{with_room, Leaves, new_generation, few_generations}
 use Rattle.index_core.proofs.BufferLemmas.{accepts}
 use Rattle.index_core.proofs.ViewLemmas.{open_views-after_accept}
 use Rattle.index_core.proofs.machine.Core.accept.Goals as goal
@@ -30,7 +30,8 @@ left c =
     rw (c.in_default-accept.ensures.ok, c.make_room.ensures.same)
     (accepts (with_room c.self.invariant c.make_room.new.self.closed c.make_room.new.self.places
     c.make_room.ensures.more) c.args.caller (plain_op c.args.op)
-    (omega (arith, c.accepted-count.ensures)) (omega (arith, same, c.in-Ok.ensures.room)))
+    (omega (arith, c.accepted-count.ensures))
+    (omega (arith, same, c.reserved-places.ensures, c.in-Ok.ensures.room)))
 
 pub invariant_of-self-2 : goal.invariant_of-self-2
 invariant_of-self-2 c = (left c).kept
@@ -48,10 +49,18 @@ returns-clause-views c =
     ((left c).record_is ∙ ap (after_accept c.args.caller (plain_op c.args.op)) c.self.view_is)
     ∙ open_views-after_accept c.args.caller (plain_op c.args.op) c.args.self.now
 
-pub accept-requires-clause-new : goal.accept-requires-clause-new
-accept-requires-clause-new c =
-    let kept : IsKept c.make_room.new.self =
+roomy : (c : goal.After-accept-arg-1) → IsKept c.make_room.new.self
+roomy c =
     rw c.make_room.ensures.same
     (with_room c.self.invariant c.make_room.new.self.closed c.make_room.new.self.places
-    c.make_room.ensures.more) in
-    new_generation kept.plain kept.fields kept.held
+    c.make_room.ensures.more)
+
+pub accept-requires-clause-few : goal.accept-requires-clause-few
+accept-requires-clause-few c = (few_generations c.make_room.new.self (roomy c).fields).0
+
+pub accept-requires-clause-few_merges : goal.accept-requires-clause-few_merges
+accept-requires-clause-few_merges c = (few_generations c.make_room.new.self (roomy c).fields).1
+
+pub accept-requires-clause-new : goal.accept-requires-clause-new
+accept-requires-clause-new c =
+    new_generation (roomy c).plain (roomy c).fields (roomy c).held

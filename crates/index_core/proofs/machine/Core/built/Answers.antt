@@ -32,12 +32,13 @@ left : (c : goal.After-build-done)
 left c =
     let same = ap (λ (s : Stored). length s.history) c.reserve.ensures.same in
     let opened = ap (λ (s : Stored). s.open_count) c.reserve.ensures.same in
-    let count = c.opened.ensures in
+    let merges = ap (λ (s : Stored). s.lists.merges_open) c.reserve.ensures.same in
+    let count = c.reserved-places.ensures in
     rw c.build-done.ensures.store
     (builds_if (roomy c) c.args.caller c.args.generation c.args.segment.value
     (λ is. c.requires (ap (λ (r : Record). is_unbuilt r c.args.generation) (sym (again c)) ∙ is)
     ∙ ap (λ (r : Record). documents_of r c.args.generation) (sym (again c)))
-    (omega (arith, same, opened, count, c.in_ok-reserve.ensures.ok)))
+    (omega (arith, same, opened, merges, count, c.in_ok-reserve.ensures.ok)))
 
 pub invariant_of-self-2 : goal.invariant_of-self-2
 invariant_of-self-2 c = (left c).kept

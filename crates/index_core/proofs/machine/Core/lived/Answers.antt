@@ -33,7 +33,8 @@ left : (c : goal.After-live-done)
 left c =
     let same = ap (λ (s : Stored). length s.history) c.reserve.ensures.same in
     let opened = ap (λ (s : Stored). s.open_count) c.reserve.ensures.same in
-    let count = c.opened.ensures in
+    let merges = ap (λ (s : Stored). s.lists.merges_open) c.reserve.ensures.same in
+    let count = c.reserved-places.ensures in
     rw c.live-done.ensures.store
     (lives_if (roomy c) c.args.caller c.args.generation c.args.applied c.args.live.value
     (subst (λ (r : Record). c.args.applied ≤ frozen r) (sym (again c)) c.requires.within)
@@ -41,7 +42,7 @@ left c =
     (ap (λ (r : Record). is_behind r c.args.generation c.args.applied) (sym (again c)) ∙ is)
     ∙ ap (λ (r : Record). live_docs_at r.journal c.args.applied
     (documents_of r c.args.generation)) (sym (again c)))
-    (omega (arith, same, opened, count, c.in_ok-reserve.ensures.ok)))
+    (omega (arith, same, opened, merges, count, c.in_ok-reserve.ensures.ok)))
 
 pub invariant_of-self-2 : goal.invariant_of-self-2
 invariant_of-self-2 c = (left c).kept

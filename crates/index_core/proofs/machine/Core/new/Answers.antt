@@ -1,11 +1,12 @@
 -- Nothing is kept.
 use Rattle.std.proofs.Common.{refl, arith, ◌≤◌, ℕ}
 use Rattle.std.proofs.lemmas.List.Elements.{All-nil}
-use Rattle.index_core.specs.Fields.{IsKept, empty_store, with_places}
+use Rattle.index_core.specs.Fields.{IsKept, empty_store, with_places, with_list_places}
 use Rattle.index_core.proofs.machine.Core.new.Goals as goal
 
-kept : (places : ℕ) → IsKept (with_places places empty_store)
-kept places = record {
+kept : (places views merges : ℕ)
+    → IsKept (with_places places (with_list_places views merges empty_store))
+kept places views merges = record {
   legal = record {
     numbered = refl;
     events = λ k event got. (cc);
@@ -26,11 +27,26 @@ kept places = record {
       open_count = refl;
       most_open = omega arith;
     };
+    own_lists = record {
+      views = refl;
+      merges = refl;
+      merges_begun = refl;
+      merges_open = refl;
+      few = omega arith;
+    };
     room = omega arith;
   };
   plain = record {
     numbered = refl;
-    unmerged = refl;
+    merges = record {
+      numbers = tt;
+      closed_before = tt;
+      within = tt;
+      rise = tt;
+      in_use = tt;
+      apart = λ g. omega arith;
+      once = tt;
+    };
     frozen_before = tt;
     frozen_within = omega arith;
     drawn_before = tt;
@@ -53,4 +69,5 @@ kept places = record {
 }
 
 pub invariant_of-result : goal.invariant_of-result
-invariant_of-result c = rw c.new.ensures (kept c.new.result.places)
+invariant_of-result c = rw c.new.ensures
+    (kept c.new.result.places c.new.result.lists.view_places c.new.result.lists.merge_places)

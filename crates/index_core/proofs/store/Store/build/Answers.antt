@@ -1,8 +1,9 @@
 -- The slot of the generation is changed, if there is one to change, and there is an event more.
-use Rattle.std.proofs.Common.{◌∙◌, map, refl, sym, ap, subst}
+use Rattle.std.proofs.Common.{◌≡◌, ◌∙◌, true, false, map, refl, sym, ap, subst}
 use Rattle.index_core.specs.HeldGenerations.{RisesFrom}
 use Rattle.index_core.specs.Keeping.{has_unbuilt}
-use Rattle.index_core.specs.Fields.{Stored, lacks_segment, slot_built}
+use Rattle.index_core.specs.Fields.{Stored}
+use Rattle.index_core.specs.Slots.{lacks_segment, slot_built}
 use Rattle.index_core.specs.Fields.{building}
 use Rattle.index_core.proofs.StoreLemmas.{mapped_one}
 use Rattle.index_core.proofs.SlotLemmas.{slots_rise, unbuilt_same}
@@ -25,17 +26,18 @@ returns-then-not-build_slot-clause-answer c =
 
 pub returns-then-not-build_slot-clause-store : goal.returns-then-not-build_slot-clause-store
 returns-then-not-build_slot-clause-store c =
-    built_not c.args.caller c.args.generation c.args.segment.value _ _ _ _ _ _ _ _ _ _ _ _
+    built_not c.args.caller c.args.generation c.args.segment.value _ _ _ _ _ _ _ _ _ _ _ _ _
     (sym c.build_slot.ensures.answer ∙ c.if-not-build_slot.true) c.build_slot.ensures.slots
     ∙ ap (building c.args.caller c.args.generation c.args.segment.value) c.self.view_is
 
 pub invariant_of-self-2 : goal.invariant_of-self-2
 invariant_of-self-2 c =
     let stay = slots_stay (map (λ b. b.value) c.self.inside.batches.items) c.args.generation
-    lacks_segment (slot_built c.args.segment.value) (λ s. refl)
+    lacks_segment (slot_built c.args.segment.value)
+    (λ s have none. absurd (let no : false ≡ true = none in cc))
     c.self.inside.slots.items c.build_slot.new.slots.items c.build_slot.ensures.slots
     c.self.invariant.1 in (
-      closed_stays _ _ _ _ _ _ _ _ _ _ c.build_slot.ensures.len c.build_slot.ensures.places
+      closed_stays _ _ _ _ _ _ _ _ _ _ _ c.build_slot.ensures.len c.build_slot.ensures.places
           c.self.invariant.0,
       stay,
     )
@@ -49,7 +51,7 @@ returns-clause-answer c =
 
 pub returns-clause-store : goal.returns-clause-store
 returns-clause-store c =
-    built_done c.args.caller c.args.generation c.args.segment.value _ _ _ _ _ _ _ _ _ _ _ _ _ _
+    built_done c.args.caller c.args.generation c.args.segment.value _ _ _ _ _ _ _ _ _ _ _ _ _ _ _
     (sym c.build_slot.ensures.answer ∙ c.if-not-build_slot.false) c.build_slot.ensures.slots
     (mapped_one _ _ _ c.push_reserved.ensures.items) c.push_reserved.ensures.capacity
     ∙ ap (building c.args.caller c.args.generation c.args.segment.value) c.self.view_is

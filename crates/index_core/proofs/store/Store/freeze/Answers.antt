@@ -12,7 +12,8 @@ returns c =
     ap (option_map (λ a. a.value)) (sym c.take.ensures.value ∙ c.in-Some.is) in
     let later : option_map (λ a. a.value) c.take.new.self ≡ None =
     ap (option_map (λ a. a.value)) c.take.ensures.after in
-    frozen_store c.args.caller _ _ _ _ _ _ c.in-Some.batch.value _ _ _ _ _ _ _ _ _ _ _ _ _ _ _ _ _
+    frozen_store c.args.caller _ _ _ _ _ _ c.in-Some.batch.value _ _ _ _ _ _ _ _ _ _ _ _ _ _ _ _ _ _
+    _
     c.behind-batch.inside.from c.behind-batch-2.inside.upto closed later c.self.invariant.0
     c.self.invariant.1
     (ap (λ (b : PlainBatch). b.from) (c.behind-batch.view_is ∙ c.deref.ensures))

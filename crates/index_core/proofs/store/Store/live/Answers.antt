@@ -2,8 +2,10 @@
 use Rattle.std.proofs.Common.{◌∙◌, map, refl, sym, ap, subst}
 use Rattle.index_core.specs.HeldGenerations.{RisesFrom}
 use Rattle.index_core.specs.Keeping.{has_behind}
-use Rattle.index_core.specs.Fields.{Stored, lacks_deletes}
-use Rattle.index_core.specs.Fields.{slot_lived, living}
+use Rattle.index_core.specs.Fields.{Stored}
+use Rattle.index_core.specs.Slots.{lacks_deletes}
+use Rattle.index_core.specs.Fields.{living}
+use Rattle.index_core.specs.Slots.{slot_lived}
 use Rattle.index_core.proofs.StoreLemmas.{mapped_one}
 use Rattle.index_core.proofs.SlotLemmas.{slots_rise, behind_same}
 use Rattle.index_core.proofs.NotingLemmas.{lived_not, lived_done, slots_stay}
@@ -26,17 +28,17 @@ returns-then-not-live_slot-clause-answer c =
 pub returns-then-not-live_slot-clause-store : goal.returns-then-not-live_slot-clause-store
 returns-then-not-live_slot-clause-store c =
     lived_not c.args.caller c.args.generation c.args.applied c.args.live.value _ _ _ _ _ _ _ _ _ _
-    _ _
+    _ _ _
     (sym c.live_slot.ensures.answer ∙ c.if-not-live_slot.true) c.live_slot.ensures.slots
     ∙ ap (living c.args.caller c.args.generation c.args.live.value c.args.applied) c.self.view_is
 
 pub invariant_of-self-2 : goal.invariant_of-self-2
 invariant_of-self-2 c =
     let stay = slots_stay (map (λ b. b.value) c.self.inside.batches.items) c.args.generation
-    (lacks_deletes c.args.applied) (slot_lived c.args.live.value c.args.applied) (λ s. refl)
+    (lacks_deletes c.args.applied) (slot_lived c.args.live.value c.args.applied) (λ s have. have)
     c.self.inside.slots.items c.live_slot.new.slots.items c.live_slot.ensures.slots
     c.self.invariant.1 in (
-      closed_stays _ _ _ _ _ _ _ _ _ _ c.live_slot.ensures.len c.live_slot.ensures.places
+      closed_stays _ _ _ _ _ _ _ _ _ _ _ c.live_slot.ensures.len c.live_slot.ensures.places
           c.self.invariant.0,
       stay,
     )
@@ -51,7 +53,7 @@ returns-clause-answer c =
 pub returns-clause-store : goal.returns-clause-store
 returns-clause-store c =
     lived_done c.args.caller c.args.generation c.args.applied c.args.live.value _ _ _ _ _ _ _ _ _
-    _ _ _ _ _
+    _ _ _ _ _ _
     (sym c.live_slot.ensures.answer ∙ c.if-not-live_slot.false) c.live_slot.ensures.slots
     (mapped_one _ _ _ c.push_reserved.ensures.items) c.push_reserved.ensures.capacity
     ∙ ap (living c.args.caller c.args.generation c.args.live.value c.args.applied) c.self.view_is

@@ -39,7 +39,7 @@ returns c = elim c.match-self.branch [
       let now : c.args.self.now.closed ≡ true =
       ap (λ (s : Stored). s.closed) (sym c.self.view_is) ∙ ap is_closed closed in
       shared_one c.args.self.now w.in-Some.batch.value c.args.least _ _ now
-      (closed_is _ _ _ _ _ _ _ _ w.in-Some.batch.value closed c.self.invariant.0
+      (closed_is _ _ _ _ _ _ _ _ _ w.in-Some.batch.value closed c.self.invariant.0
       ∙ ap next_batch c.self.view_is)
       (c.requires now) (rest_now c)
       (ap (λ v. map (λ b. b.value) v.items) w.copies-is

@@ -1,7 +1,8 @@
 -- Those behind the known ones.
 use Rattle.std.proofs.Common.{◌≡◌, ◌∙◌, ap, map, drop}
 use Rattle.index_core.specs.Keeping.{least_applied, known_batches}
-use Rattle.index_core.specs.Fields.{Stored, slot_piece}
+use Rattle.index_core.specs.Fields.{Stored}
+use Rattle.index_core.specs.Slots.{slot_piece}
 use Rattle.index_core.proofs.ListLemmas.{map-drop}
 use Rattle.index_core.proofs.store.Store.share_frozen.Goals as goal
 
