@@ -7,11 +7,13 @@ use wire_json::{Command, LineError, command};
 
 const STANDARD: Analyzer = Analyzer { separators: true };
 
-// The worker of an operation or a query.
+// The worker of an operation, a query, a flush or a merge.
 fn lane_of(alloc: Global, line: &str, lanes: u32) -> Result<u32, LineError> {
     match command(alloc, line.as_bytes(), lanes, &STANDARD)? {
         Command::Accept { lane, .. } => Ok(lane),
         Command::Suggest { lane, .. } => Ok(lane),
+        Command::Flush { lane } => Ok(lane),
+        Command::Merge { lane } => Ok(lane),
         _ => Err(LineError::Shape),
     }
 }
@@ -26,6 +28,10 @@ fn a_line_names_its_worker(rt: HostRuntime) {
     assert_eq!(rt; lane_of(alloc, delete, 2), Ok(0));
     assert_eq!(rt; lane_of(alloc, query, 2), Ok(1));
     assert_eq!(rt; lane_of(alloc, add, 1), Err(LineError::Lane));
+    let flush = r#"{"op":"flush","lane":1}"#;
+    assert_eq!(rt; lane_of(alloc, flush, 2), Ok(1));
+    let merge = r#"{"op":"merge"}"#;
+    assert_eq!(rt; lane_of(alloc, merge, 2), Ok(0));
 }
 
 #[test]

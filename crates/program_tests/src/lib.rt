@@ -7,6 +7,8 @@ mod end_tests;
 #[cfg(test)]
 mod journals;
 #[cfg(test)]
+mod merge_tests;
+#[cfg(test)]
 mod plain_tests;
 #[cfg(test)]
 mod run_tests;

@@ -37,7 +37,7 @@ use Rattle.sg_shell.specs.Working.{Begins}
 use Rattle.sg_shell.specs.Working.{Answers, NamedBuilt}
 use Rattle.sg_shell.specs.declared.engine.TheConstants.{CALLER}
 use Rattle.sg_shell.proofs.BeginLemmas.{passed}
-use Rattle.sg_shell.proofs.FlushLemmas.{passes_both}
+use Rattle.sg_shell.proofs.PassLemmas.{passes_both}
 use Rattle.sg_shell.proofs.HoldingLemmas.{begin_cases}
 use Rattle.sg_shell.proofs.PrintLemmas.{rows_are}
 use Rattle.sg_shell.proofs.ReportLemmas.{meets_seen}
@@ -229,7 +229,7 @@ working_new r os is none =
     subst (λ (x : Record). IsWorking x os) (sym is)
     (subst (IsWorking Rattle.index_core.specs.Calls.empty_record) (sym none) (record {
       holds = Rattle.sg_shell.proofs.HoldingLemmas.holds_untouched;
-      running = record { counted = refl; unmerged = refl; frozen_before = tt; drawn_before = tt };
+      running = record { counted = refl; known = tt; frozen_before = tt; drawn_before = tt };
       shown = tt;
     }))
 

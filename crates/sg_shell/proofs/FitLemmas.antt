@@ -13,16 +13,19 @@ use Rattle.index_core.specs.declared.limits.TheConstants.{MOST_OPERATIONS, MOST_
 use Rattle.index_core.specs.Histories.{Record, View}
 use Rattle.index_core.specs.Records.{accepted}
 use Rattle.index_core.specs.Calls.{after_accept, after_begin, after_end, begun_by}
+use Rattle.index_core.specs.MergeCalls.{merge_begun_by}
 use Rattle.wire_json.specs.Commands.{Command, blank, accepts, suggests, opens, closes, flushes}
 use Rattle.wire_json.specs.Commands.{merges, barrier, refused}
 use Rattle.wire_json.specs.CommandForms.{IsRead}
-use Rattle.wire_replies.specs.Replies.{Reply, numbered, rows, opened, closed, failed}
+use Rattle.wire_replies.specs.Replies.{Reply, numbered, rows, opened, closed, built, merged}
+use Rattle.wire_replies.specs.Replies.{failed}
 use Rattle.wire_replies.specs.Rows.{Row}
 use Rattle.wire_replies.specs.declared.error_kind.ErrorKind.TheVariants.{Full, View as NoView}
 use Rattle.wire_replies.specs.declared.error_kind.ErrorKind.TheVariants.{Views as NoRoom}
 use Rattle.sg_shell.specs.Rows.{printed_rows}
 use Rattle.sg_shell.specs.Transcripts.{Line, Said}
 use Rattle.sg_shell.specs.Workers.{Open, Worker, with_seen, Step, says, reports, after_flush}
+use Rattle.sg_shell.specs.Workers.{built_by_flush, merged_count, after_merge}
 use Rattle.sg_shell.specs.Workers.{named, without_name, accept_step, query_step, named_step}
 use Rattle.sg_shell.specs.Workers.{open_step, close_step, step}
 use Rattle.sg_shell.specs.Runs.{IsReportReply, Adds}
@@ -32,6 +35,7 @@ use Rattle.sg_shell.specs.RunLaws.{told}
 use Rattle.sg_shell.proofs.GainLemmas.{IsCounted, Gains, gains-none, gains-then, gains-accept}
 use Rattle.sg_shell.proofs.GainLemmas.{gains-freeze, gains-begin, gains-end, gains-flush}
 use Rattle.sg_shell.proofs.HoldingLemmas.{begin_cases, open_count}
+use Rattle.sg_shell.proofs.PlanLemmas.{few_merged, gains-merge}
 use Rattle.sg_shell.specs.Working.{Holds}
 use Rattle.sg_shell.proofs.NamingLemmas.{told_named, without_told}
 use Rattle.sg_shell.proofs.SessionLemmas.{Follows, IsNext, follows-cons, next-numbered, next-none}
@@ -290,8 +294,16 @@ module _ (caller n : ℕ) (w : Worker) (holds : Holds w) (counted : IsCounted w.
   fits (suggests lane q (Some name)) read = fits_named lane q name (named name w.kept) refl
   fits (opens lane name) read = fits_open lane name (named name w.kept) refl
   fits (closes lane name) read = fits_close lane name (named name w.kept) refl
-  fits (flushes lane) read = absurd read
-  fits (merges lane) read = absurd read
+  fits (flushes lane) read =
+      fits_says w (at (flushes lane)) (built n (built_by_flush caller w.seen)) (with_seen r w) refl
+      (built_by_flush caller w.seen, refl) (gains-flush caller w.seen)
+      (next_failed (flushes lane) (built n (built_by_flush caller w.seen)) refl refl refl
+      (λ so. so)) refl
+  fits (merges lane) read =
+      let count = merged_count (merge_begun_by caller w.seen) in
+      fits_says w (at (merges lane)) (merged n count) (with_seen (after_merge caller w.seen) w) refl
+      (count, refl, few_merged caller w.seen) (gains-merge caller w.seen)
+      (next_failed (merges lane) (merged n count) refl refl refl (λ so. so)) refl
   fits barrier read = absurd read
   fits (refused kind) read =
       fits_says w (at (refused kind)) (failed n kind) w refl refl (gains-none w.seen)

@@ -12,17 +12,18 @@ use Rattle.index_core.specs.Histories.{Record, View, begun_views}
 use Rattle.index_core.specs.Records.{accepted, open_views}
 use Rattle.index_core.specs.Calls.{after_accept, after_freeze, after_begin, after_end, begun_by}
 use Rattle.index_core.specs.Calls.{released_by_end}
-use Rattle.wire_json.specs.Commands.{Command, accepts, suggests, opens, closes}
-use Rattle.wire_json.specs.Commands.{refused}
+use Rattle.wire_json.specs.Commands.{Command, accepts, suggests, opens, closes, flushes}
+use Rattle.wire_json.specs.Commands.{merges, refused}
 use Rattle.wire_replies.specs.Replies.{numbered, failed}
 use Rattle.wire_replies.specs.declared.error_kind.ErrorKind.TheVariants.{Full, Views as NoRoom}
 use Rattle.sg_shell.specs.Transcripts.{Line, Said}
 use Rattle.sg_shell.specs.Workers.{Open, Worker, untouched, with_seen, Step, says}
-use Rattle.sg_shell.specs.Workers.{after_flush, named, accept_step, begin_step}
+use Rattle.sg_shell.specs.Workers.{after_flush, after_merge, named, accept_step, begin_step}
 use Rattle.sg_shell.specs.Workers.{query_step, named_step, open_step, close_step, step}
 use Rattle.sg_shell.specs.Runs.{Ran}
 use Rattle.sg_shell.specs.RunLaws.{NamedViewsAreOpen}
 use Rattle.sg_shell.specs.Working.{Quiet, Views, views_of, Holds}
+use Rattle.sg_shell.proofs.PlanLemmas.{quiet_merge}
 use Rattle.sg_shell.proofs.QuietLemmas.{quiet_freeze, quiet_accept, quiet_flush}
 use Rattle.sg_shell.proofs.OpenLemmas.{quiet_views, begin_views, end_views, without_newest}
 use Rattle.sg_shell.proofs.OpenLemmas.{found_view, close_one, apart_without}
@@ -158,6 +159,9 @@ module _ (caller n : ℕ) (w : Worker) (holds : Holds w) where
   holds_step (suggests lane q (Some name)) = holds_named q (named name w.kept)
   holds_step (opens lane name) = holds_open name (named name w.kept) refl
   holds_step (closes lane name) = holds_close name (named name w.kept) refl
+  holds_step (flushes lane) = flushed
+  holds_step (merges lane) =
+      quiet_holds w (after_merge caller w.seen) (quiet_merge caller w.seen) holds
   holds_step (refused kind) = holds
   holds_step other = holds
 

@@ -12,8 +12,9 @@ pub mod GainLemmas
 pub mod NamingLemmas
 pub mod FitLemmas
 pub mod RunSessionLemmas
+pub mod DocumentLemmas
 pub mod StayLemmas
-pub mod FlushLemmas
+pub mod PassLemmas
 pub mod BeginLemmas
 pub mod PrintLemmas
 pub mod EngineLemmas
@@ -26,3 +27,7 @@ pub mod AcceptLemmas
 pub mod UnchangedLemmas
 pub mod RefreshLemmas
 pub mod ReadyLemmas
+pub mod CountLemmas
+pub mod PlanLemmas
+pub mod MergeLemmas
+pub mod OpenMergeLemmas

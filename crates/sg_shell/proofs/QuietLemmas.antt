@@ -20,7 +20,7 @@ quiet_same r = record { begun = refl; ended = refl }
 pub quiet_both : (r s u : Record) → Quiet r s → Quiet s u → Quiet r u
 quiet_both r s u p q = record { begun = q.begun ∙ p.begun; ended = q.ended ∙ p.ended }
 
-quiet_event : (r : Record) (e : HistoryEvent) → begun_view e ≡ None → ended_view e ≡ None
+pub quiet_event : (r : Record) (e : HistoryEvent) → begun_view e ≡ None → ended_view e ≡ None
     → Quiet r (with_event r e)
 quiet_event r e begins ends = record {
   begun = skips begun_view r.history e begins;

@@ -8,6 +8,7 @@ use Rattle.wire_json.specs.Commands.{command_of_value, value_of, is_long, is_bla
 use Rattle.wire_json.specs.Commands.{command_of}
 use Rattle.wire_json.specs.CommandForms.{IsRead}
 use Rattle.wire_json.specs.Forms.{Form, change, delete, suggest, open_view, close_view, form_of}
+use Rattle.wire_json.specs.Forms.{flush, merge}
 use Rattle.wire_json.specs.LineErrors.{error_of_form}
 use Rattle.sg_shell.specs.Transcripts.{lines_from, standard}
 use Rattle.sg_shell.specs.declared.engine.TheConstants.{LANES}
@@ -27,6 +28,8 @@ form-read (delete lane id) = tt
 form-read (suggest lane prefix options view) = tt
 form-read (open_view lane name) = tt
 form-read (close_view lane name) = tt
+form-read (flush lane) = tt
+form-read (merge lane) = tt
 
 pub line-read : (line : List ℕ) → IsRead (command_of standard LANES line)
 line-read line =

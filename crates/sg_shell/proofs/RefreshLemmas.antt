@@ -17,9 +17,7 @@ use Rattle.index_core.specs.CurrentPieces.{is_unbuilt, after_built, is_behind}
 use Rattle.index_core.specs.CurrentPieces.{after_lived}
 use Rattle.index_core.proofs.HistoryLemmas.{skips, frozen-skip}
 use Rattle.sg_shell.specs.Workers.{refreshed}
-use Rattle.sg_shell.specs.Working.{Passes}
 use Rattle.sg_shell.specs.Flushing.{IsReady}
-use Rattle.sg_shell.proofs.FlushLemmas.{built_refreshes, lived_refreshes}
 use Rattle.sg_shell.proofs.UnchangedLemmas.{merges_same, documents_stay, applied_stays}
 use Rattle.sg_shell.proofs.UnchangedLemmas.{applied_now}
 
@@ -189,11 +187,3 @@ live_docs_stay c g upto r s live same is =
     (sym (documents_after_built c g r g))
     ∙ ap (λ (j : List PlainOp). live_docs_at j upto (documents_of (after_built c g r) g))
     (sym (journal_after_built c g r)))
-
--- ---- views
-
-pub built_passes : (c g : ℕ) (r s : Record) → s ≡ after_built c g r → Passes r s
-built_passes c g r s is = subst (Passes r) (sym is) (built_refreshes c g r).passes
-
-pub lived_passes : (c g upto : ℕ) (r s : Record) → s ≡ after_lived c g upto r → Passes r s
-lived_passes c g upto r s is = subst (Passes r) (sym is) (lived_refreshes c g upto r).passes

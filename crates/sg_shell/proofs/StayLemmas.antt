@@ -1,31 +1,34 @@
 -- Views stay what they are, whatever the record gains.
-use Rattle.std.proofs.Common.{◌≡◌, ◌≤◌, ◌<◌, ◌+◌, ℕ, Bool, true, false, cond, not, nat_eq, ◌&&◌}
-use Rattle.std.proofs.Common.{List, [], ◌∷◌, ◌++◌, length, map, take, None, refl, sym, ap, ◌∙◌}
-use Rattle.std.proofs.Common.{subst, arith, append-nil, length-append}
-use Rattle.std.specs.Prelude.{filter, fold, nat_le}
+use Rattle.std.proofs.Common.{◌≡◌, ◌≤◌, ◌<◌, ◌+◌, ℕ, Bool, true, false, cond, not, nat_eq}
+use Rattle.std.proofs.Common.{List, [], ◌∷◌, ◌++◌, length, map, take, Option, Some, None, refl, sym}
+use Rattle.std.proofs.Common.{ap, ◌∙◌, subst, arith, length-append}
+use Rattle.std.specs.Prelude.{filter}
 use Rattle.std.specs.List.{AllByRecursion, filter_map}
-use Rattle.std.proofs.lemmas.Bool.Decides.{nat_tests}
-use Rattle.std.proofs.lemmas.List.Elements.{filter-append, filter_map-append, filter_agree}
-use Rattle.sg_paths.specs.Operations.{PlainOp, adds, updates, deletes, PlainNumbered, documents_from}
+use Rattle.std.proofs.lemmas.Option.{same_Some}
+use Rattle.std.proofs.lemmas.List.Elements.{filter_map-append, filter_agree}
+use Rattle.sg_paths.specs.Operations.{PlainOp, PlainNumbered, documents_from}
 use Rattle.sg_paths.specs.LiveDocuments.{is_deleted, live_documents}
-use Rattle.sg_paths.proofs.LiveDocumentsLemmas.{documents_from-append}
 use Rattle.sg_answers.specs.Reports.{ViewedSegment, live_in}
 use Rattle.segment.specs.Items.{total_of}
 use Rattle.index_core.specs.declared.limits.TheConstants.{BATCH_OPERATIONS}
 use Rattle.index_core.specs.Histories.{HistoryEvent, accept, freeze, begin, built}
-use Rattle.index_core.specs.Histories.{live_docs_updated, view_end, Record, View, is_among}
-use Rattle.index_core.specs.Histories.{frozen_upto, drawn_generation, accepted_number, merges_from}
+use Rattle.index_core.specs.Histories.{live_docs_updated, merge_begin, merge_end, merge_drop}
+use Rattle.index_core.specs.Histories.{view_end, Record, View, Merge, frozen_upto}
+use Rattle.index_core.specs.Histories.{drawn_generation, accepted_number}
 use Rattle.index_core.specs.Records.{with_event, accepted, frozen, buffered, begun_merges, drawn}
-use Rattle.index_core.specs.Records.{next_generation}
-use Rattle.index_core.specs.Generations.{holders_after, documents_of}
+use Rattle.index_core.specs.Records.{next_generation, next_merge}
+use Rattle.index_core.specs.Generations.{documents_of}
+use Rattle.index_core.specs.EndedMerges.{IsOfKnownMerge, BeginsNextMerge}
 use Rattle.index_core.specs.Calls.{with_operation, after_accept, after_freeze}
 use Rattle.index_core.specs.CurrentPieces.{is_unbuilt, after_built, is_behind, after_lived}
-use Rattle.index_core.proofs.HistoryLemmas.{skips, merges-none}
-use Rattle.index_core.proofs.GenerationLemmas.{documents_stay, holders_next, fold_same, unheld}
-use Rattle.index_core.proofs.GenerationLemmas.{among_other}
+use Rattle.index_core.proofs.HistoryLemmas.{skips}
+use Rattle.index_core.proofs.ListLemmas.{all_more, all_weaker}
+use Rattle.index_core.proofs.EventLemmas.{begun_by, frozen_after, merges-more}
+use Rattle.index_core.proofs.MergingLemmas.{stay}
 use Rattle.sg_shell.specs.Runs.{segment_seen, segments_seen}
 use Rattle.sg_shell.specs.Viewed.{IsSegmentOf, IsViewIn}
 use Rattle.sg_shell.specs.Working.{IsRunning, Keeps, Stays}
+use Rattle.sg_shell.proofs.DocumentLemmas.{documents_accept}
 use Rattle.sg_shell.proofs.GainLemmas.{Gains, gains-event}
 use Rattle.sg_shell.proofs.ReportLemmas.{first_stays, deleted_stays, live_stays}
 
@@ -111,44 +114,113 @@ view_stays r s more v journal next same is =
       sees = sees;
     }
 
--- ---- events that draw nothing
-
 each_same : (r s : Record) (gs : List ℕ) → ((g : ℕ) → documents_of s g ≡ documents_of r g)
     → AllByRecursion (λ g. documents_of s g ≡ documents_of r g) gs
 each_same r s [] same = tt
 each_same r s (g ∷ gs) same = (same g, each_same r s gs same)
 
--- an event that is of no operation, no freeze and no merge
-pub record IsMinor (r : Record) (e : HistoryEvent) : Type 0 where
-  pub accepts : filter_map accepted_number (e ∷ []) ≡ []
-  pub freezes : frozen_upto e ≡ None
-  pub draws : drawn_generation e ≡ None
-  pub merges : (n : ℕ) → merges_from n (e ∷ []) ≡ []
-  pub holds : (d : PlainNumbered) (gens : List ℕ) → holders_after (with_event r e) d gens e ≡ gens
+-- ---- events
 
-pub event_stays : (r : Record) (e : HistoryEvent) → IsMinor r e → Stays r (with_event r e)
-event_stays r e minor =
-    let s = with_event r e in
-    let unmerged : IsRunning r → begun_merges s ≡ [] =
-    λ is. merges-none 0 r.history e minor.merges is.unmerged in
-    let drawn_same : drawn s ≡ drawn r = skips drawn_generation r.history e minor.draws in
-    let next : next_generation r ≡ next_generation s =
-    ap (λ (gs : List ℕ). length gs + 1) (sym drawn_same) in
-    let gains : Gains [] r s = gains-event r e minor.accepts in
-    record {
-      running = λ is. record {
+-- an event that may come next and accepts nothing: what it freezes is accepted, what it draws is the
+-- next generation, a merge that it begins is the next, and one that it ends was begun
+pub record IsNextEvent (r : Record) (e : HistoryEvent) : Type 0 where
+  pub accepts : filter_map accepted_number (e ∷ []) ≡ []
+  pub freezes : (n : ℕ) → frozen_upto e ≡ Some n → n ≤ accepted r
+  pub draws : (g : ℕ) → drawn_generation e ≡ Some g → g ≡ next_generation r
+  pub begins : BeginsNextMerge r e
+  pub ends : IsOfKnownMerge (next_merge r) e
+
+-- what an event gives, if it gives anything, is one more
+given : (f : HistoryEvent → Option ℕ) (e : HistoryEvent) (n : ℕ) → f e ≡ Some n
+    → filter_map f (e ∷ []) ≡ n ∷ []
+given f e n is = rw is refl
+
+more_given : (P : ℕ → Type 0) (f : HistoryEvent → Option ℕ) (h : List HistoryEvent)
+    (e : HistoryEvent) → AllByRecursion P (filter_map f h)
+    → ((n : ℕ) → f e ≡ Some n → P n) → AllByRecursion P (filter_map f (h ++ e ∷ []))
+more_given P f h e all last = by_cases (f e) refl
+  where
+    by_cases : (o : Option ℕ) → f e ≡ o → AllByRecursion P (filter_map f (h ++ e ∷ []))
+    by_cases None is = subst (AllByRecursion P) (sym (skips f h e is)) all
+    by_cases (Some n) is =
+        subst (AllByRecursion P)
+        (sym (filter_map-append f h (e ∷ [])
+        ∙ ap (λ (ns : List ℕ). filter_map f h ++ ns) (given f e n is)))
+        (all_more P (filter_map f h) n all (last n is))
+
+known_more : (m n : ℕ) (e : HistoryEvent) → m ≤ n → IsOfKnownMerge m e → IsOfKnownMerge n e
+known_more m n (accept c s) le of = tt
+known_more m n (freeze c g f u) le of = tt
+known_more m n (begin c v u gs) le of = tt
+known_more m n (built c g) le of = tt
+known_more m n (live_docs_updated c g a) le of = tt
+known_more m n (merge_begin c k gs) le of = tt
+known_more m n (merge_end c k into gone) le of = omega (arith, le, of)
+known_more m n (merge_drop c k) le of = tt
+known_more m n (view_end c v gone) le of = tt
+
+module _ (r : Record) (e : HistoryEvent) where
+  abbrev r' : Record
+  r' = with_event r e
+
+  drawn-more : drawn r' ≡ drawn r ++ filter_map drawn_generation (e ∷ [])
+  drawn-more = filter_map-append drawn_generation r.history (e ∷ [])
+
+  next_more : next_generation r ≤ next_generation r'
+  next_more =
+      let d = ap (λ (gs : List ℕ). length gs) drawn-more in
+      let l = length-append (drawn r) (filter_map drawn_generation (e ∷ [])) in omega (arith, d, l)
+
+  next_drawn : (g : ℕ) → drawn_generation e ≡ Some g
+      → next_generation r' ≡ next_generation r + 1
+  next_drawn g is =
+      let one : drawn r' ≡ drawn r ++ g ∷ [] =
+      drawn-more ∙ ap (λ (gs : List ℕ). drawn r ++ gs) (given drawn_generation e g is) in
+      let d = ap (λ (gs : List ℕ). length gs) one in
+      let l = length-append (drawn r) (g ∷ []) in omega (arith, d, l)
+
+  next_merge_more : next_merge r ≤ next_merge r'
+  next_merge_more =
+      let begun : begun_merges r' ≡ begun_merges r ++ begun_by (frozen_after 0 r.history) e =
+      merges-more 0 r.history e in
+      let d = ap (λ (ms : List Merge). length ms) begun in
+      let l = length-append (begun_merges r) (begun_by (frozen_after 0 r.history) e) in
+      omega (arith, d, l)
+
+  running-event : IsNextEvent r e → IsRunning r → IsRunning r'
+  running-event next is =
+      let gains : Gains [] r r' = gains-event r e next.accepts in record {
         counted = (let c = gains.counted in let d = is.counted in omega (arith, c, d));
-        unmerged = unmerged is;
-        frozen_before = subst (AllByRecursion (λ n. n ≤ length r.journal))
-            (sym (skips frozen_upto r.history e minor.freezes)) is.frozen_before;
-        drawn_before = subst (λ (k : ℕ). AllByRecursion (λ g. g < k) (drawn s)) next
-            (subst (AllByRecursion (λ g. g < next_generation r)) (sym drawn_same)
-            is.drawn_before);
-      };
+        known = all_more (IsOfKnownMerge (next_merge r')) r.history e
+            (all_weaker (IsOfKnownMerge (next_merge r)) (IsOfKnownMerge (next_merge r'))
+            (λ x of. known_more (next_merge r) (next_merge r') x next_merge_more of) r.history
+            is.known)
+            (known_more (next_merge r) (next_merge r') e next_merge_more next.ends);
+        frozen_before = more_given (λ n. n ≤ length r.journal) frozen_upto r.history e
+            is.frozen_before
+            (λ n so. (let le = next.freezes n so in let d = is.counted in omega (arith, le, d)));
+        drawn_before = more_given (λ g. g < next_generation r') drawn_generation r.history e
+            (all_weaker (λ g. g < next_generation r) (λ g. g < next_generation r')
+            (λ g less. (let m = next_more in omega (arith, less, m))) (drawn r) is.drawn_before)
+            (λ g so. (let g' = next.draws g so in let m = next_drawn g so in omega (arith, g', m)));
+      }
+
+  documents-event : IsNextEvent r e → IsRunning r → (g : ℕ) → g < next_generation r
+      → documents_of r' g ≡ documents_of r g
+  documents-event next is g less =
+      stay r e g is.known next.begins
+      (λ so. (let g' = next.draws g so in absurd (omega (arith, g', less))))
+
+pub event_stays : (r : Record) (e : HistoryEvent) → IsNextEvent r e → Stays r (with_event r e)
+event_stays r e next =
+    let s = with_event r e in
+    let gains : Gains [] r s = gains-event r e next.accepts in
+    record {
+      running = running-event r e next;
       views = λ is v view.
-          view_stays r s [] v gains.journal (omega (arith, next))
-          (each_same r s v.generations (λ g. documents_stay r e is.unmerged (unmerged is) g
-          (λ d gens. ap (is_among g) (minor.holds d gens)))) view;
+          view_stays r s [] v gains.journal (next_more r e)
+          (all_weaker (λ g. g < next_generation r) (λ g. documents_of s g ≡ documents_of r g)
+          (documents-event r e next is) v.generations view.drawn) view;
     }
 
 pub stays_built : (caller g : ℕ) (r : Record) → Stays r (after_built caller g r)
@@ -156,10 +228,10 @@ stays_built caller g r =
     stays_if (is_unbuilt r g) r _ r
     (event_stays r (built caller g) (record {
       accepts = refl;
-      freezes = refl;
-      draws = refl;
-      merges = λ n. refl;
-      holds = λ d gens. refl;
+      freezes = λ n so. cc;
+      draws = λ x so. cc;
+      begins = tt;
+      ends = tt;
     })) (stays_same r)
 
 pub stays_lived : (caller g upto : ℕ) (r : Record) → Stays r (after_lived caller g upto r)
@@ -167,10 +239,10 @@ stays_lived caller g upto r =
     stays_if (is_behind r g upto) r _ r
     (event_stays r (live_docs_updated caller g upto) (record {
       accepts = refl;
-      freezes = refl;
-      draws = refl;
-      merges = λ n. refl;
-      holds = λ d gens. refl;
+      freezes = λ n so. cc;
+      draws = λ x so. cc;
+      begins = tt;
+      ends = tt;
     })) (stays_same r)
 
 pub stays_view_end : (caller view : ℕ) (gone : List ℕ) (r : Record)
@@ -178,10 +250,10 @@ pub stays_view_end : (caller view : ℕ) (gone : List ℕ) (r : Record)
 stays_view_end caller view gone r =
     event_stays r (view_end caller view gone) (record {
       accepts = refl;
-      freezes = refl;
-      draws = refl;
-      merges = λ n. refl;
-      holds = λ d gens. refl;
+      freezes = λ n so. cc;
+      draws = λ x so. cc;
+      begins = tt;
+      ends = tt;
     })
 
 pub stays_view_begin : (caller view upto : ℕ) (gens : List ℕ) (r : Record)
@@ -189,101 +261,58 @@ pub stays_view_begin : (caller view upto : ℕ) (gens : List ℕ) (r : Record)
 stays_view_begin caller view upto gens r =
     event_stays r (begin caller view upto gens) (record {
       accepts = refl;
-      freezes = refl;
-      draws = refl;
-      merges = λ n. refl;
-      holds = λ d gens. refl;
+      freezes = λ n so. cc;
+      draws = λ x so. cc;
+      begins = tt;
+      ends = tt;
     })
-
--- ---- a freeze
-
-others : (g : ℕ) (n : ℕ) → g < n → nat_eq g n ≡ false
-others g n less = grind (arith, nat_tests, less)
-
-held_same : (b : Bool) (g n : ℕ) (gens : List ℕ) → nat_eq g n ≡ false
-    → is_among g (cond b (gens ++ n ∷ []) gens) ≡ is_among g gens
-held_same true g n gens other = among_other g n gens other
-held_same false g n gens other = refl
-
-one_more_number : (P : ℕ → Type 0) (ns : List ℕ) (n : ℕ) → AllByRecursion P ns → P n
-    → AllByRecursion P (ns ++ n ∷ [])
-one_more_number P [] n all last = (last, tt)
-one_more_number P (m ∷ ms) n all last = (all.0, one_more_number P ms n all.1 last)
-
-module _ (r : Record) (caller : ℕ) where
-  abbrev e-freeze : HistoryEvent
-  e-freeze = freeze caller (next_generation r) (frozen r + 1) (accepted r)
-
-  abbrev r-freeze : Record
-  r-freeze = with_event r e-freeze
-
-  drawn-freeze : drawn r-freeze ≡ drawn r ++ next_generation r ∷ []
-  drawn-freeze = filter_map-append drawn_generation r.history (e-freeze ∷ [])
-
-  next-freeze : next_generation r-freeze ≡ next_generation r + 1
-  next-freeze =
-      let e = ap (λ (gs : List ℕ). length gs) drawn-freeze in
-      let l = length-append (drawn r) (next_generation r ∷ []) in omega (arith, e, l)
-
-  unmerged-freeze : IsRunning r → begun_merges r-freeze ≡ []
-  unmerged-freeze is = merges-none 0 r.history e-freeze (λ n. refl) is.unmerged
-
-  documents-freeze : IsRunning r → (g : ℕ) → g < next_generation r
-      → documents_of r-freeze g ≡ documents_of r g
-  documents-freeze is g less =
-      documents_stay r e-freeze is.unmerged (unmerged-freeze is) g
-      (λ d gens. held_same (nat_le (frozen r + 1) d.seq && nat_le d.seq (accepted r)) g
-      (next_generation r) gens (others g (next_generation r) less))
-
-  each-freeze : IsRunning r → (gs : List ℕ) → AllByRecursion (λ g. g < next_generation r) gs
-      → AllByRecursion (λ g. documents_of r-freeze g ≡ documents_of r g) gs
-  each-freeze is [] all = tt
-  each-freeze is (g ∷ gs) all = (documents-freeze is g all.0, each-freeze is gs all.1)
-
-  stays-freeze : Stays r r-freeze
-  stays-freeze =
-      let gains : Gains [] r r-freeze = gains-event r e-freeze refl in
-      let next = next-freeze in
-      record {
-        running = λ is. record {
-          counted = (let c = gains.counted in let d = is.counted in omega (arith, c, d));
-          unmerged = unmerged-freeze is;
-          frozen_before = subst (AllByRecursion (λ n. n ≤ length r.journal))
-              (sym (filter_map-append frozen_upto r.history (e-freeze ∷ [])))
-              (one_more_number (λ n. n ≤ length r.journal) (filter_map frozen_upto r.history)
-              (accepted r) is.frozen_before (let d = is.counted in omega (arith, d)));
-          drawn_before = subst (AllByRecursion (λ g. g < next_generation r-freeze))
-              (sym drawn-freeze)
-              (one_more_number (λ g. g < next_generation r-freeze) (drawn r) (next_generation r)
-              (before_more (next_generation r) (next_generation r-freeze) (drawn r)
-              (omega (arith, next)) is.drawn_before) (omega (arith, next)));
-        };
-        views = λ is v view.
-            view_stays r r-freeze [] v gains.journal (omega (arith, next))
-            (each-freeze is v.generations view.drawn) view;
-      }
 
 pub stays_freeze : (caller : ℕ) (r : Record) → Stays r (after_freeze caller r)
 stays_freeze caller r =
-    stays_if (nat_eq (buffered r) 0) r r _ (stays_same r) (stays-freeze r caller)
+    stays_if (nat_eq (buffered r) 0) r r _ (stays_same r)
+    (event_stays r (freeze caller (next_generation r) (frozen r + 1) (accepted r)) (record {
+      accepts = refl;
+      freezes = λ n so. (let same = same_Some (accepted r) n so in omega (arith, same));
+      draws = λ x so. sym (same_Some (next_generation r) x so);
+      begins = tt;
+      ends = tt;
+    }))
+
+pub stays_merge_begin : (caller : ℕ) (gens : List ℕ) (r : Record)
+    → Stays r (with_event r (merge_begin caller (next_merge r) gens))
+stays_merge_begin caller gens r =
+    event_stays r (merge_begin caller (next_merge r) gens) (record {
+      accepts = refl;
+      freezes = λ n so. cc;
+      draws = λ x so. cc;
+      begins = refl;
+      ends = tt;
+    })
+
+pub stays_merge_drop : (caller merge : ℕ) (r : Record)
+    → Stays r (with_event r (merge_drop caller merge))
+stays_merge_drop caller merge r =
+    event_stays r (merge_drop caller merge) (record {
+      accepts = refl;
+      freezes = λ n so. cc;
+      draws = λ x so. cc;
+      begins = tt;
+      ends = tt;
+    })
+
+pub stays_merge_end : (caller merge : ℕ) (into : Option ℕ) (gone : List ℕ) (r : Record)
+    → merge < next_merge r → ((g : ℕ) → into ≡ Some g → g ≡ next_generation r)
+    → Stays r (with_event r (merge_end caller merge into gone))
+stays_merge_end caller merge into gone r begun draws =
+    event_stays r (merge_end caller merge into gone) (record {
+      accepts = refl;
+      freezes = λ n so. cc;
+      draws = draws;
+      begins = tt;
+      ends = begun;
+    })
 
 -- ---- an operation more
-
-one_filtered : (t : PlainNumbered → Bool) (n : ℕ) (op : PlainOp)
-    → ((d : PlainNumbered) → d.seq ≡ n → t d ≡ false) → filter t (documents_from n (op ∷ [])) ≡ []
-one_filtered t n (adds d) none = rw (none (record { seq = n; document = d }) refl) refl
-one_filtered t n (updates d) none = rw (none (record { seq = n; document = d }) refl) refl
-one_filtered t n (deletes id) none = refl
-
-strictly : (m n : ℕ) (ns : List ℕ) → AllByRecursion (λ u. u ≤ m) ns → m < n
-    → AllByRecursion (λ u. u < n) ns
-strictly m n [] all less = tt
-strictly m n (x ∷ xs) all less = (omega (arith, all.0, less), strictly m n xs all.1 less)
-
-weaker : (m n : ℕ) (ns : List ℕ) → m ≤ n → AllByRecursion (λ u. u ≤ m) ns
-    → AllByRecursion (λ u. u ≤ n) ns
-weaker m n [] le all = tt
-weaker m n (x ∷ xs) le all = (omega (arith, all.0, le), weaker m n xs le all.1)
 
 module _ (r : Record) (is : IsRunning r) (caller : ℕ) (op : PlainOp) where
   abbrev e-accept : HistoryEvent
@@ -291,33 +320,6 @@ module _ (r : Record) (is : IsRunning r) (caller : ℕ) (op : PlainOp) where
 
   abbrev r-accept : Record
   r-accept = with_operation caller op r
-
-  unmerged-accept : begun_merges r-accept ≡ []
-  unmerged-accept = merges-none 0 r.history e-accept (λ n. refl) is.unmerged
-
-  holders-accept : (d : PlainNumbered)
-      → fold (holders_after r-accept d) [] r-accept.history
-      ≡ fold (holders_after r d) [] r.history
-  holders-accept d =
-      fold_same r-accept (with_event r e-accept) unmerged-accept unmerged-accept d
-      r-accept.history []
-      ∙ holders_next r e-accept is.unmerged unmerged-accept d
-
-  documents-accept : (g : ℕ) → documents_of r-accept g ≡ documents_of r g
-  documents-accept g =
-      let t : PlainNumbered → Bool =
-      λ d. is_among g (fold (holders_after r-accept d) [] r-accept.history) in
-      let t' : PlainNumbered → Bool = λ d. is_among g (fold (holders_after r d) [] r.history) in
-      let later = documents_from (1 + length r.journal) (op ∷ []) in
-      ap (filter t) (documents_from-append 1 r.journal (op ∷ []))
-      ∙ filter-append t (documents_from 1 r.journal) later
-      ∙ ap (λ (ds : List PlainNumbered). filter t (documents_from 1 r.journal) ++ ds)
-      (one_filtered t (1 + length r.journal) op (λ d seq. ap (is_among g) (holders-accept d
-      ∙ unheld r is.unmerged d r.history
-      (strictly (length r.journal) d.seq (filter_map frozen_upto r.history)
-      is.frozen_before (omega (arith, seq))))))
-      ∙ append-nil (filter t (documents_from 1 r.journal))
-      ∙ filter_agree t t' (λ d. ap (is_among g) (holders-accept d)) (documents_from 1 r.journal)
 
   drawn-accept : drawn r-accept ≡ drawn r
   drawn-accept = skips drawn_generation r.history e-accept refl
@@ -337,11 +339,14 @@ module _ (r : Record) (is : IsRunning r) (caller : ℕ) (op : PlainOp) where
       length-append r.journal (op ∷ []) in
       record {
         counted = (let c = counted-accept in let d = is.counted in omega (arith, c, d, l));
-        unmerged = unmerged-accept;
+        known = all_more (IsOfKnownMerge (next_merge r-accept)) r.history e-accept
+            (all_weaker (IsOfKnownMerge (next_merge r)) (IsOfKnownMerge (next_merge r-accept))
+            (λ x of. known_more (next_merge r) (next_merge r-accept) x (next_merge_more r e-accept) of)
+            r.history is.known) tt;
         frozen_before = subst (AllByRecursion (λ n. n ≤ length r-accept.journal))
             (sym (skips frozen_upto r.history e-accept refl))
-            (weaker (length r.journal) (length r-accept.journal)
-            (filter_map frozen_upto r.history) (omega (arith, l)) is.frozen_before);
+            (all_weaker (λ n. n ≤ length r.journal) (λ n. n ≤ length r-accept.journal)
+            (λ n le. omega (arith, l, le)) (filter_map frozen_upto r.history) is.frozen_before);
         drawn_before = subst (λ (k : ℕ). AllByRecursion (λ g. g < k) (drawn r-accept)) next-accept
             (subst (AllByRecursion (λ g. g < next_generation r)) (sym drawn-accept)
             is.drawn_before);
@@ -350,7 +355,7 @@ module _ (r : Record) (is : IsRunning r) (caller : ℕ) (op : PlainOp) where
   keeps-accept : (v : View) → IsViewIn r v → Keeps r r-accept v
   keeps-accept v view =
       view_stays r r-accept (op ∷ []) v refl (let n = next-accept in omega (arith, n))
-      (each_same r r-accept v.generations documents-accept) view
+      (each_same r r-accept v.generations (documents_accept r is.frozen_before caller op)) view
 
 pub stays_accept : (caller : ℕ) (op : PlainOp) (r : Record) → Stays r (after_accept caller op r)
 stays_accept caller op r =

@@ -10,7 +10,7 @@ use Rattle.sg_answers.specs.declared.limits.TheConstants.{MOST_QUEUED}
 use Rattle.segment.specs.Views.{PlainParts}
 use Rattle.sg_view.specs.Viewing.{PlainView, viewed_segments, Represents, IsViewOf}
 use Rattle.index_core.specs.Histories.{Record, View}
-use Rattle.index_core.specs.Records.{open_views}
+use Rattle.index_core.specs.Records.{open_views, open_merges}
 use Rattle.index_core.specs.OpenViews.{view_of}
 use Rattle.index_core.specs.CurrentPieces.{AreOf}
 use Rattle.wire_json.specs.Commands.{suggests}
@@ -77,8 +77,8 @@ ReportsAreAnswers =
 abbrev pub told : Open → NamedView
 told o = record { name = o.name; upto = o.view.upto }
 
--- of lines that are read each reply is one that its line may have, and the names of a worker's views are those that its
--- lines tell
+-- of lines that are read each reply is one that its line may have, and the names of a worker's views
+-- are those that its lines tell
 abbrev pub NamesAreKept : Type 0
 NamesAreKept =
     (caller : ℕ) (lines : List Line) (t : List Said) (w : Worker)
@@ -90,3 +90,9 @@ abbrev pub NamedViewsAreOpen : Type 0
 NamedViewsAreOpen =
     (caller : ℕ) (lines : List Line) (t : List Said) (w : Worker) → Ran caller untouched lines t w
     → open_views w.seen ≡ map (λ o. o.view) w.kept
+
+-- between lines no merge is open
+abbrev pub NoMergeStaysOpen : Type 0
+NoMergeStaysOpen =
+    (caller : ℕ) (lines : List Line) (t : List Said) (w : Worker) → Ran caller untouched lines t w
+    → open_merges w.seen ≡ []

@@ -11,8 +11,10 @@ use Rattle.sg_paths.specs.Operations.{PlainOp, documents_from}
 use Rattle.sg_paths.specs.LiveDocuments.{live_documents}
 use Rattle.sg_answers.specs.Reports.{IsSoundOver}
 use Rattle.index_core.specs.declared.limits.TheConstants.{MOST_OPERATIONS, MOST_OPEN_VIEWS}
-use Rattle.wire_json.specs.Commands.{Command, blank, accepts, suggests, opens, closes, refused}
-use Rattle.wire_replies.specs.Replies.{Reply, numbered, rows, opened, closed, failed}
+use Rattle.wire_json.specs.Commands.{Command, blank, accepts, suggests, opens, closes, flushes}
+use Rattle.wire_json.specs.Commands.{merges, refused}
+use Rattle.wire_replies.specs.Replies.{Reply, numbered, rows, opened, closed, built, merged}
+use Rattle.wire_replies.specs.Replies.{failed}
 use Rattle.wire_replies.specs.Rows.{Row}
 use Rattle.wire_replies.specs.declared.error_kind.ErrorKind.TheVariants.{Full, View as NoView}
 use Rattle.wire_replies.specs.declared.error_kind.ErrorKind.TheVariants.{Views}
@@ -72,7 +74,7 @@ MayClose name None line r = r ≡ failed line NoView
 MayClose name (Some v) line r = r ≡ closed line name
 
 -- The replies that a line may have where these views are open, by what it asks for: its own error
--- exactly, else exact but for numbers and rows. No line asks for the other commands.
+-- exactly, else exact but for numbers and rows. No line asks for a barrier.
 abbrev pub MayReply : List NamedView → Command → ℕ → Reply → Type 0
 MayReply vs (accepts lane operation) line r =
     ((seq : ℕ) × (r ≡ numbered line seq)) ⊎ (r ≡ failed line Full)
@@ -81,6 +83,8 @@ MayReply vs (suggests lane query None) line r =
 MayReply vs (suggests lane query (Some name)) line r = MayAsk (view_named name vs) line r
 MayReply vs (opens lane name) line r = MayOpen vs name (view_named name vs) line r
 MayReply vs (closes lane name) line r = MayClose name (view_named name vs) line r
+MayReply vs (flushes lane) line r = (count : ℕ) × (r ≡ built line count)
+MayReply vs (merges lane) line r = (count : ℕ) × (r ≡ merged line count) × (count ≤ 10)
 MayReply vs (refused kind) line r = r ≡ failed line kind
 MayReply vs other line r = ⊥
 

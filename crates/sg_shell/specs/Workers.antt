@@ -1,17 +1,20 @@
 -- One worker alone: what each line makes it print, and its state afterwards, which never depends on
 -- the rows that were printed. Source: this project's own.
 use Rattle.std.specs.Prelude.{ℕ, ◌+◌, not, nat_le, if◌then◌else◌, List, [], ◌∷◌, ◌++◌, length}
-use Rattle.std.specs.Prelude.{filter, fold, find, Option, Some, None, bytes_eq}
+use Rattle.std.specs.Prelude.{filter, fold, find, count_by, Option, Some, None, bytes_eq}
 use Rattle.sg_context.specs.Queries.{PlainQuery}
 use Rattle.sg_paths.specs.Operations.{PlainOp}
-use Rattle.index_core.specs.Histories.{Record, View}
+use Rattle.index_core.specs.Histories.{Record, View, Merge}
 use Rattle.index_core.specs.Records.{accepted, frozen, current, open_views}
 use Rattle.index_core.specs.Calls.{empty_record, after_accept, after_freeze, after_begin, after_end}
 use Rattle.index_core.specs.Calls.{begun_by}
+use Rattle.index_core.specs.MergeCalls.{merge_begun_by, after_begin_merge, after_commit}
+use Rattle.index_core.specs.Generations.{is_built}
 use Rattle.index_core.specs.CurrentPieces.{after_built, after_lived}
 use Rattle.index_core.specs.declared.limits.TheConstants.{MOST_OPERATIONS, MOST_OPEN_VIEWS}
-use Rattle.wire_json.specs.Commands.{Command, accepts, suggests, opens, closes, refused}
-use Rattle.wire_replies.specs.Replies.{Reply, numbered, opened, closed, failed}
+use Rattle.wire_json.specs.Commands.{Command, accepts, suggests, opens, closes, flushes, merges}
+use Rattle.wire_json.specs.Commands.{refused}
+use Rattle.wire_replies.specs.Replies.{Reply, numbered, opened, closed, built, merged, failed}
 use Rattle.wire_replies.specs.declared.error_kind.ErrorKind.TheVariants.{Full, View as NoView}
 use Rattle.wire_replies.specs.declared.error_kind.ErrorKind.TheVariants.{Views}
 
@@ -58,6 +61,30 @@ abbrev pub after_flush : ℕ → Record → Record
 after_flush caller r =
     let all_frozen = after_freeze caller r in
     fold (refreshed caller (frozen all_frozen)) all_frozen (current all_frozen)
+
+-- how many current generations have no segment
+abbrev pub unbuilt_count : Record → ℕ
+unbuilt_count r = count_by (λ g. not (is_built r g)) (current r)
+
+-- how many segments a flush builds
+abbrev pub built_by_flush : ℕ → Record → ℕ
+built_by_flush caller r = unbuilt_count (after_freeze caller r)
+
+-- ---- merging
+
+-- how many segments are merged, 0 where the plan is none
+abbrev pub merged_count : Option Merge → ℕ
+merged_count None = 0
+merged_count (Some m) = length m.generations
+
+-- a merge that begins next has begun and ended, if there is one
+abbrev pub after_merge_of : ℕ → Record → Option Merge → Record
+after_merge_of caller r None = r
+after_merge_of caller r (Some m) = after_commit caller m (after_begin_merge caller r)
+
+-- the merge that the plan begins has begun and ended
+abbrev pub after_merge : ℕ → Record → Record
+after_merge caller r = after_merge_of caller r (merge_begun_by caller r)
 
 -- ---- named views
 
@@ -120,8 +147,18 @@ close_step caller line name (Some o) w =
       kept = without_name name w.kept;
     })
 
--- A line, by what it asks for. A blank line prints nothing, and no line asks for the other
--- commands.
+-- what is buffered becomes segments
+abbrev pub flush_step : ℕ → ℕ → Worker → Step
+flush_step caller line w =
+    says (built line (built_by_flush caller w.seen)) (with_seen (after_flush caller w.seen) w)
+
+-- one merge, if the plan begins one
+abbrev pub merge_step : ℕ → ℕ → Worker → Step
+merge_step caller line w =
+    says (merged line (merged_count (merge_begun_by caller w.seen)))
+    (with_seen (after_merge caller w.seen) w)
+
+-- A line, by what it asks for. A blank line prints nothing, and no line asks for a barrier.
 abbrev pub step : ℕ → ℕ → Command → Worker → Step
 step caller line (accepts lane operation) w = accept_step caller line operation w
 step caller line (suggests lane query None) w = query_step caller line query w
@@ -129,5 +166,7 @@ step caller line (suggests lane query (Some name)) w =
     named_step line query (named name w.kept) w
 step caller line (opens lane name) w = open_step caller line name (named name w.kept) w
 step caller line (closes lane name) w = close_step caller line name (named name w.kept) w
+step caller line (flushes lane) w = flush_step caller line w
+step caller line (merges lane) w = merge_step caller line w
 step caller line (refused kind) w = says (failed line kind) w
 step caller line other w = record { expected = None; after = w }

@@ -4,18 +4,12 @@ use Rattle.std.specs.Prelude.{◌≡◌, ◌≤◌, ◌<◌, ⊤, ℕ, false, na
 use Rattle.std.specs.Prelude.{map, Option, Some, None, Contains}
 use Rattle.std.specs.List.{AllByRecursion, filter_map}
 use Rattle.sg_base.specs.declared.hit.Hit.{Hit}
-use Rattle.sg_paths.specs.Operations.{PlainOp, PlainBatch}
 use Rattle.sg_answers.specs.declared.limits.TheConstants.{MOST_QUEUED}
-use Rattle.seg_live.specs.LiveDocs.{live_without}
-use Rattle.seg_table.specs.Ids.{places_from}
-use Rattle.segment.specs.Pieces.{PlainPiece, piece_documents, live_docs_or_all, live_docs_at}
-use Rattle.segment.specs.Views.{IsBuildablePiece}
-use Rattle.delete_queue.specs.Deletes.{is_dead_in}
 use Rattle.index_core.specs.declared.limits.TheConstants.{MOST_OPEN_VIEWS}
 use Rattle.index_core.specs.Histories.{HistoryEvent, Record, View, ended_view}
 use Rattle.index_core.specs.Histories.{begun_views, open_views, frozen_upto}
-use Rattle.index_core.specs.Records.{accepted, frozen, begun_merges, drawn, next_generation}
-use Rattle.index_core.specs.Generations.{documents_of}
+use Rattle.index_core.specs.Records.{accepted, drawn, next_generation}
+use Rattle.index_core.specs.EndedMerges.{HasKnownMerges}
 use Rattle.index_core.specs.Calls.{after_begin, begun_by}
 use Rattle.sg_view.specs.Viewing.{LiveSegment, PlainView, viewed_segments}
 use Rattle.sg_view.specs.Rows.{hit_document, hit_suggestion}
@@ -33,11 +27,11 @@ pub record Quiet (r s : Record) : Type 0 where
   pub begun : begun_views s.history ≡ begun_views r.history
   pub ended : filter_map ended_view s.history ≡ filter_map ended_view r.history
 
--- a record without merges, whose freezes are of accepted operations and draw one generation after
--- another
+-- a record whose merges that ended were begun, whose freezes are of accepted operations, and which
+-- drew one generation after another
 pub record IsRunning (r : Record) : Type 0 where
   pub counted : accepted r ≡ length r.journal
-  pub unmerged : begun_merges r ≡ []
+  pub known : HasKnownMerges r
   pub frozen_before : AllByRecursion (λ n. n ≤ length r.journal) (filter_map frozen_upto r.history)
   pub drawn_before : AllByRecursion (λ g. g < next_generation r) (drawn r)
 
@@ -123,27 +117,6 @@ KeepsOpen r s = (kept : List View) → Views r.history kept → Views s.history 
 pub record Passes (r s : Record) : Type 0 where
   pub stays : Stays r s
   pub open_stay : KeepsOpen r s
-
--- segments and live docs came, and nothing else
-pub record Refreshes (r s : Record) : Type 0 where
-  pub passes : Passes r s
-  pub documents : IsRunning r → (g : ℕ) → documents_of s g ≡ documents_of r g
-  pub frozen_stay : frozen s ≡ frozen r
-  pub journal : s.journal ≡ r.journal
-
--- with the deletes of batches up to upto, a piece's live docs are those after so many operations
-abbrev pub IsDue : List PlainOp → ℕ → List PlainBatch → PlainPiece → Type 0
-IsDue journal upto batches p =
-    live_without 0 (places_from 0 (is_dead_in p.applied upto batches) (piece_documents p))
-    (live_docs_or_all (piece_documents p) p.live_docs)
-    ≡ live_docs_at journal upto (piece_documents p)
-
--- what a flush needs of a piece
-pub record IsFlushable (r : Record) (upto : ℕ) (batches : List PlainBatch) (p : PlainPiece)
-    : Type 0 where
-  pub buildable : IsBuildablePiece p
-  pub documents : piece_documents p ≡ documents_of r p.generation
-  pub due : IsDue r.journal upto batches p
 
 -- ---- replies
 

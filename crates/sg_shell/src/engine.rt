@@ -11,12 +11,14 @@ ghost use Rattle.wire_json.specs.CommandForms.{plain_command, IsRead};
 ghost use Rattle.wire_replies.specs.ReplyForms.{plain_reply};
 ghost use Rattle.sg_shell.specs.Transcripts.{standard};
 ghost use Rattle.sg_shell.specs.Workers.{Worker as PlainWorker, accept_step, query_step, named_step};
-ghost use Rattle.sg_shell.specs.Workers.{open_step, close_step, step, named, with_seen};
+ghost use Rattle.sg_shell.specs.Workers.{open_step, close_step, flush_step, merge_step, step};
+ghost use Rattle.sg_shell.specs.Workers.{named, with_seen};
 ghost use Rattle.sg_shell.specs.Runs.{IsReportReply};
 ghost use Rattle.sg_shell.specs.Working.{IsRunning, Passes, IsWorking, IsShown, Answers, MayAnswer};
 ghost use Rattle.sg_shell.specs.Working.{worker_of, open_of, view_in, Holds};
 
 use crate::flushing::flush;
+use crate::merging::merge;
 use crate::opened::{Opened, end_opened, position_of};
 use crate::viewing::{answer_in, begin, end};
 use index_core::{Core, Refused, Why};
@@ -279,6 +281,24 @@ fn suggest(
     }
 }
 
+fn flush_line(core: &mut Core, alloc: Global, line: u64) -> Result<Reply, AllocError>
+    ensures reply { IfOk result (λ r. (w : PlainWorker) → w.seen ≡ core.old
+        → Answers line (flush_step CALLER line w) (plain_reply r) (with_seen core.new w)) }
+    ensures passes { Passes core.old core.new }
+{
+    let count = flush(core, alloc)?;
+    Ok(Reply::Built { line, count })
+}
+
+fn merge_line(core: &mut Core, line: u64) -> Result<Reply, AllocError>
+    ensures reply { IfOk result (λ r. (w : PlainWorker) → w.seen ≡ core.old
+        → Answers line (merge_step CALLER line w) (plain_reply r) (with_seen core.new w)) }
+    ensures passes { Passes core.old core.new }
+{
+    let count = merge(core)?;
+    Ok(Reply::Merged { line, count })
+}
+
 /// What a command prints as line number `line`, if it prints anything.
 fn step(
     worker: &mut Worker,
@@ -315,8 +335,10 @@ fn step(
             line,
             name,
         ))),
-        // No line asks for these, and the caller knows.
-        Command::Flush { .. } | Command::Merge { .. } | Command::Barrier => unreachable!(),
+        Command::Flush { lane: _ } => Ok(Some(flush_line(&mut worker.core, alloc, line)?)),
+        Command::Merge { lane: _ } => Ok(Some(merge_line(&mut worker.core, line)?)),
+        // No line asks for a barrier, and the caller knows.
+        Command::Barrier => unreachable!(),
     }
 }
 

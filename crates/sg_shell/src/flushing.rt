@@ -1,6 +1,6 @@
 //! What is buffered is frozen, and each generation gets its segment and its live docs.
-ghost use Rattle.std.specs.Prelude.{◌≡◌, ◌<◌, ◌≤◌, ◌&&◌, IfOk, OnOk, length, map, fold, nat_le};
-ghost use Rattle.std.specs.Prelude.{option_map};
+ghost use Rattle.std.specs.Prelude.{◌≡◌, ◌<◌, ◌≤◌, ◌&&◌, ◌^◌, IfOk, OnOk, length, map, fold, not};
+ghost use Rattle.std.specs.Prelude.{count_by, nat_le, option_map};
 ghost use Rattle.std.specs.List.{All, AllByRecursion};
 ghost use Rattle.seg_live.specs.LiveDocs.{live_without};
 ghost use Rattle.segment.specs.Pieces.{body_of, body_documents, piece_documents};
@@ -9,7 +9,7 @@ ghost use Rattle.segment.specs.Views.{IsBuildableBody, IsBuildablePiece};
 ghost use Rattle.index_core.specs.Records.{frozen};
 ghost use Rattle.index_core.specs.Generations.{documents_of};
 ghost use Rattle.index_core.specs.CurrentPieces.{is_segment};
-ghost use Rattle.sg_shell.specs.Workers.{refreshed, after_flush};
+ghost use Rattle.sg_shell.specs.Workers.{refreshed, after_flush, built_by_flush};
 ghost use Rattle.sg_shell.specs.Working.{Passes};
 ghost use Rattle.sg_shell.specs.Flushing.{live_docs_less, IsReady};
 
@@ -91,6 +91,29 @@ fn live_docs_less(
     )
 }
 
+fn is_raw(piece: &Piece) -> bool
+    ensures { result ≡ not (is_segment piece.now.body) }
+{
+    match &piece.kind {
+        Kind::Raw(_) => true,
+        Kind::Built(_) => false,
+    }
+}
+
+/// How many of these pieces have no segment.
+fn raw_count(pieces: &[Piece]) -> u32
+    requires { length pieces.now < 2 ^ 32 }
+    ensures { result ≡ count_by (λ p. not (is_segment p.body)) pieces.now }
+{
+    let mut count = 0;
+    for piece in pieces {
+        if is_raw(piece) {
+            count += 1;
+        }
+    }
+    count
+}
+
 /// Whether a piece has its segment, with live docs that know the deletes of so many operations.
 fn is_refreshed(piece: &Piece, upto: u64) -> bool
     ensures { result ≡ (is_segment piece.now.body && nat_le upto piece.now.applied) }
@@ -161,19 +184,22 @@ fn refresh_all(
 }
 
 /// Brings the index up to date: freezes what is buffered, builds the segments that are missing, and
-/// applies all deletes that are frozen. Want of memory may come between two of these steps, and
-/// what was done stays done.
-pub(crate) fn flush(core: &mut Core, alloc: Global) -> Result<(), AllocError>
+/// applies all deletes that are frozen. Answers how many segments it built. Want of memory may come
+/// between two of these steps, and what was done stays done.
+pub(crate) fn flush(core: &mut Core, alloc: Global) -> Result<u32, AllocError>
+    ensures count { IfOk result (λ count. count ≡ built_by_flush CALLER core.old) }
     ensures ok { OnOk result (core.new ≡ after_flush CALLER core.old) }
     ensures passes { Passes core.old core.new }
 {
     core.seal(CALLER)?;
     let parts = core.pieces()?;
+    let count = raw_count(parts.pieces.items());
     refresh_all(
         core,
         alloc,
         parts.pieces.items(),
         parts.upto,
         parts.batches.items(),
-    )
+    )?;
+    Ok(count)
 }

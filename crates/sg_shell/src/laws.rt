@@ -1,7 +1,7 @@
 //! Laws of the definitions.
 ghost use Rattle.sg_shell.specs.RunLaws.{OneLineMore, OnlyTruncatedRepliesDiffer};
 ghost use Rattle.sg_shell.specs.RunLaws.{ViewsMeetTheirReports, ReportsAreAnswers, NamesAreKept};
-ghost use Rattle.sg_shell.specs.RunLaws.{NamedViewsAreOpen};
+ghost use Rattle.sg_shell.specs.RunLaws.{NamedViewsAreOpen, NoMergeStaysOpen};
 
 /// A run goes on by one line.
 pub fn one_line_more()
@@ -31,4 +31,9 @@ pub fn names_are_kept()
 /// The named views are the open ones.
 pub fn named_views_are_open()
     ensures { NamedViewsAreOpen }
+{}
+
+/// A merge begins and ends in its line.
+pub fn no_merge_stays_open()
+    ensures { NoMergeStaysOpen }
 {}

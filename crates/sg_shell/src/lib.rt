@@ -6,6 +6,7 @@ mod engine;
 mod flushing;
 mod laws;
 mod lines;
+mod merging;
 mod opened;
 mod program;
 mod reading;
@@ -16,8 +17,8 @@ mod viewing;
 mod writing;
 
 pub use laws::{
-    named_views_are_open, names_are_kept, one_line_more, only_truncated_replies_differ,
-    reports_are_answers, views_meet_their_reports,
+    named_views_are_open, names_are_kept, no_merge_stays_open, one_line_more,
+    only_truncated_replies_differ, reports_are_answers, views_meet_their_reports,
 };
 pub use program::{limits_are_exact, run_program};
 pub use running::run;

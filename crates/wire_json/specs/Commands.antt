@@ -15,6 +15,7 @@ use Rattle.wire_json.specs.Suggested.{Entry, entries_of, weight_of, contexts_giv
 use Rattle.wire_json.specs.Suggested.{context_given}
 use Rattle.wire_json.specs.Asked.{QueryOptions, query_context_of, rows_asked}
 use Rattle.wire_json.specs.Forms.{Form, change, delete, suggest, open_view, close_view, form_of}
+use Rattle.wire_json.specs.Forms.{flush, merge}
 use Rattle.wire_json.specs.LineErrors.{Keyed, input_key, prefix_key, lane_of, error_of_form}
 use Rattle.wire_json.specs.declared.forms.Change.{Change}
 use Rattle.wire_json.specs.declared.forms.Change.TheVariants.{Add, Update}
@@ -87,6 +88,8 @@ command_by_form analyzer lanes (suggest lane prefix o view) =
     suggests (lane_or_first lanes lane) (query_of analyzer prefix o) view
 command_by_form analyzer lanes (open_view lane name) = opens (lane_or_first lanes lane) name
 command_by_form analyzer lanes (close_view lane name) = closes (lane_or_first lanes lane) name
+command_by_form analyzer lanes (flush lane) = flushes (lane_or_first lanes lane)
+command_by_form analyzer lanes (merge lane) = merges (lane_or_first lanes lane)
 
 -- the error of a form, else what it asks for
 abbrev pub command_of_form : Analyzer → ℕ → Form → Command

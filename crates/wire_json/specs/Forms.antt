@@ -14,13 +14,15 @@ use Rattle.wire_json.specs.declared.forms.Change.TheVariants.{Add, Update}
 
 -- the worker as it is given, then: the id and the suggestions of a change; the id of a delete; the
 -- prefix and the options of a query, and the view that it is in, if it is in one; the name of a view
--- that is opened, or closed
+-- that is opened, or closed; nothing more of a flush and a merge
 pub data Form : Type 0 where
   change : Change → Option Data → List ℕ → List Data → Form
   delete : Option Data → List ℕ → Form
   suggest : Option Data → List ℕ → QueryOptions → Option (List ℕ) → Form
   open_view : Option Data → List ℕ → Form
   close_view : Option Data → List ℕ → Form
+  flush : Option Data → Form
+  merge : Option Data → Form
 
 -- the worker as it is given
 abbrev pub lane_given : Data → Option Data
@@ -91,7 +93,9 @@ form_by d (Some op) =
     else (if bytes_eq op (codes "suggest") then suggest_of d
     else (if bytes_eq op (codes "open") then open_view_of d
     else (if bytes_eq op (codes "close") then close_view_of d
-    else None)))))
+    else (if bytes_eq op (codes "flush") then Some (flush (lane_given d))
+    else (if bytes_eq op (codes "merge") then Some (merge (lane_given d))
+    else None)))))))
 
 -- the form of a line's value, if it has one
 abbrev pub form_of : Data → Option Form

@@ -19,6 +19,7 @@ use Rattle.wire_json.specs.Suggested.{has_wrong_contexts}
 use Rattle.wire_json.specs.Asked.{QueryOptions, ask_for_reserved_context, have_wrong_contexts}
 use Rattle.wire_json.specs.Asked.{have_wrong_boost, have_wrong_row_count}
 use Rattle.wire_json.specs.Forms.{Form, change, delete, suggest, open_view, close_view}
+use Rattle.wire_json.specs.Forms.{flush, merge}
 use Rattle.wire_json.specs.declared.keys.KeyFault.{KeyFault}
 use Rattle.wire_json.specs.declared.keys.KeyFault.TheVariants as faults
 use Rattle.wire_replies.specs.declared.error_kind.ErrorKind.{ErrorKind}
@@ -52,6 +53,8 @@ keys_of analyzer (delete lane id) = []
 keys_of analyzer (suggest lane prefix o view) = prefix_key analyzer prefix ∷ []
 keys_of analyzer (open_view lane name) = []
 keys_of analyzer (close_view lane name) = []
+keys_of analyzer (flush lane) = []
+keys_of analyzer (merge lane) = []
 
 -- whether a text has no token
 abbrev pub is_refused_as_empty : Keyed → Bool
@@ -100,17 +103,19 @@ used_by_delete lane id = record { lane = lane; id = Some id; suggestions = []; o
 abbrev pub used_by_query : Option Data → QueryOptions → Used
 used_by_query lane o = record { lane = lane; id = None; suggestions = []; options = Some o }
 
--- what the opening or closing of a view uses
-abbrev pub used_by_view : Option Data → Used
-used_by_view lane = record { lane = lane; id = None; suggestions = []; options = None }
+-- what a form uses that has its worker alone, or a view's name with it
+abbrev pub used_by_lane : Option Data → Used
+used_by_lane lane = record { lane = lane; id = None; suggestions = []; options = None }
 
 -- what each form uses
 abbrev pub used : Form → Used
 used (change how lane id ds) = used_by_change lane id ds
 used (delete lane id) = used_by_delete lane id
 used (suggest lane prefix o view) = used_by_query lane o
-used (open_view lane name) = used_by_view lane
-used (close_view lane name) = used_by_view lane
+used (open_view lane name) = used_by_lane lane
+used (close_view lane name) = used_by_lane lane
+used (flush lane) = used_by_lane lane
+used (merge lane) = used_by_lane lane
 
 -- the errors in order, each with whether it applies
 abbrev pub errors_by : ℕ → Used → List Keyed → List (ErrorKind × Bool)

@@ -12,7 +12,7 @@ use Rattle.wire_json.specs.declared.forms.GivenChange.{GivenChange}
 use Rattle.wire_json.specs.declared.forms.GivenQuery.{GivenQuery}
 use Rattle.wire_json.specs.declared.forms.Form.{Form}
 use Rattle.wire_json.specs.declared.forms.Form.TheVariants.{Change, Delete, Suggest, OpenView}
-use Rattle.wire_json.specs.declared.forms.Form.TheVariants.{CloseView}
+use Rattle.wire_json.specs.declared.forms.Form.TheVariants.{CloseView, Flush, Merge}
 
 -- a change as plain data
 abbrev pub plain_change : GivenChange → plain.Form
@@ -38,6 +38,8 @@ plain_form (Delete lane id) = plain.delete (option_map (λ v. view v.now) lane) 
 plain_form (Suggest given) = plain_query given
 plain_form (OpenView lane name) = plain.open_view (option_map (λ v. view v.now) lane) name.now
 plain_form (CloseView lane name) = plain.close_view (option_map (λ v. view v.now) lane) name.now
+plain_form (Flush lane) = plain.flush (option_map (λ v. view v.now) lane)
+plain_form (Merge lane) = plain.merge (option_map (λ v. view v.now) lane)
 
 -- the entries are those of the suggestions, 1 to 16
 pub record EntriesFit (given : GivenChange) : Type 0 where
@@ -51,3 +53,5 @@ HasItsEntries (Delete lane id) = ⊤
 HasItsEntries (Suggest given) = ⊤
 HasItsEntries (OpenView lane name) = ⊤
 HasItsEntries (CloseView lane name) = ⊤
+HasItsEntries (Flush lane) = ⊤
+HasItsEntries (Merge lane) = ⊤

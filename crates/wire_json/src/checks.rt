@@ -5,7 +5,7 @@ ghost use Rattle.serde_json.specs.View.{view};
 ghost use Rattle.sg_paths.specs.Documents.{is_id};
 ghost use Rattle.wire_json.specs.Asked.{rows_asked};
 ghost use Rattle.wire_json.specs.LineErrors.{lane_of, used_by_change, used_by_delete};
-ghost use Rattle.wire_json.specs.LineErrors.{used_by_query, used_by_view, errors_by};
+ghost use Rattle.wire_json.specs.LineErrors.{used_by_query, used_by_lane, errors_by};
 ghost use Rattle.wire_json.specs.LineErrors.{first_that_applies};
 ghost use Rattle.wire_json.specs.Commands.{lane_or_first};
 ghost use Rattle.wire_json.specs.CommandForms.{kind_of};
@@ -111,12 +111,12 @@ pub fn check_delete(lanes: u32, lane: Option<&Value>, id: &str) -> Result<(), Li
     Ok(())
 }
 
-/// A view that is opened or closed.
-pub fn check_view(lanes: u32, lane: Option<&Value>) -> Result<(), LineError>
+/// What has its worker alone, or a view's name with it.
+pub fn check_lane(lanes: u32, lane: Option<&Value>) -> Result<(), LineError>
     ensures ok { OnOk result (first_that_applies (errors_by lanes
-        (used_by_view (option_map (λ v. view v.now) lane.entry)) []) ≡ None) }
+        (used_by_lane (option_map (λ v. view v.now) lane.entry)) []) ≡ None) }
     ensures refused { IfErr result (λ e. first_that_applies (errors_by lanes
-        (used_by_view (option_map (λ v. view v.now) lane.entry)) []) ≡ kind_of e) }
+        (used_by_lane (option_map (λ v. view v.now) lane.entry)) []) ≡ kind_of e) }
 {
     if lane_of(lanes, lane).is_none() {
         return Err(LineError::Lane);

@@ -70,6 +70,12 @@ pub enum Form<'v> {
         lane: Option<&'v Value>,
         name: &'v str,
     },
+    Flush {
+        lane: Option<&'v Value>,
+    },
+    Merge {
+        lane: Option<&'v Value>,
+    },
 }
 
 fn lane_given(value: &Value) -> Option<&Value>
@@ -243,6 +249,12 @@ pub fn read_form(alloc: Global, value: &Value) -> Result<Option<Form<'_>>, Alloc
         Some("suggest") => Ok(read_suggest(value)),
         Some("open") => Ok(read_open_view(value)),
         Some("close") => Ok(read_close_view(value)),
+        Some("flush") => Ok(Some(Form::Flush {
+            lane: lane_given(value),
+        })),
+        Some("merge") => Ok(Some(Form::Merge {
+            lane: lane_given(value),
+        })),
         _ => Ok(None),
     }
 }

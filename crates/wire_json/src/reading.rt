@@ -10,7 +10,7 @@ ghost use Rattle.wire_json.specs.ReadForms.{plain_change, plain_query, plain_for
 ghost use Rattle.wire_json.specs.ReadForms.{HasItsEntries};
 
 use crate::building::{document, operation, query};
-use crate::checks::{check_change, check_delete, check_suggest, check_view, lane_or_first};
+use crate::checks::{check_change, check_delete, check_lane, check_suggest, lane_or_first};
 use crate::commands::Command;
 use crate::errors::LineError;
 use crate::forms::{Form, GivenChange, GivenQuery, read_form};
@@ -82,7 +82,7 @@ fn open_view(
         lanes (plain.open_view (option_map (λ v. view v.now) lane.entry) name.now)) e) }
     ensures read { IfOk result (λ c. IsRead (plain_command c)) }
 {
-    check_view(lanes, lane)?;
+    check_lane(lanes, lane)?;
     let name = Text::of(alloc, name)?;
     Ok(Command::OpenView {
         lane: lane_or_first(lanes, lane),
@@ -102,11 +102,37 @@ fn close_view(
         lanes (plain.close_view (option_map (λ v. view v.now) lane.entry) name.now)) e) }
     ensures read { IfOk result (λ c. IsRead (plain_command c)) }
 {
-    check_view(lanes, lane)?;
+    check_lane(lanes, lane)?;
     let name = Text::of(alloc, name)?;
     Ok(Command::CloseView {
         lane: lane_or_first(lanes, lane),
         name,
+    })
+}
+
+fn flush(lanes: u32, lane: Option<&Value>) -> Result<Command, LineError>
+    ensures ok { IfOk result (λ c. (analyzer : Analyzer) → command_of_form analyzer lanes
+        (plain.flush (option_map (λ v. view v.now) lane.entry)) ≡ plain_command c) }
+    ensures refused { IfErr result (λ e. (analyzer : Analyzer) → Refuses (command_of_form analyzer
+        lanes (plain.flush (option_map (λ v. view v.now) lane.entry))) e) }
+    ensures read { IfOk result (λ c. IsRead (plain_command c)) }
+{
+    check_lane(lanes, lane)?;
+    Ok(Command::Flush {
+        lane: lane_or_first(lanes, lane),
+    })
+}
+
+fn merge(lanes: u32, lane: Option<&Value>) -> Result<Command, LineError>
+    ensures ok { IfOk result (λ c. (analyzer : Analyzer) → command_of_form analyzer lanes
+        (plain.merge (option_map (λ v. view v.now) lane.entry)) ≡ plain_command c) }
+    ensures refused { IfErr result (λ e. (analyzer : Analyzer) → Refuses (command_of_form analyzer
+        lanes (plain.merge (option_map (λ v. view v.now) lane.entry))) e) }
+    ensures read { IfOk result (λ c. IsRead (plain_command c)) }
+{
+    check_lane(lanes, lane)?;
+    Ok(Command::Merge {
+        lane: lane_or_first(lanes, lane),
     })
 }
 
@@ -166,6 +192,8 @@ fn command_for(
         Form::Suggest { given } => suggest(alloc, lanes, analyzer, given),
         Form::OpenView { lane, name } => open_view(alloc, lanes, lane, name),
         Form::CloseView { lane, name } => close_view(alloc, lanes, lane, name),
+        Form::Flush { lane } => flush(lanes, lane),
+        Form::Merge { lane } => merge(lanes, lane),
     }
 }
 

@@ -1,6 +1,6 @@
 -- An operation is accepted, or refused as full.
 use Rattle.sg_shell.proofs.AcceptLemmas.{accepts_numbered, accepts_full}
-use Rattle.sg_shell.proofs.FlushLemmas.{accept_passes}
+use Rattle.sg_shell.proofs.PassLemmas.{accept_passes}
 use Rattle.sg_shell.proofs.engine.accept.Goals as goal
 
 pub returns-in-Ok-clause-reply : goal.returns-in-Ok-clause-reply

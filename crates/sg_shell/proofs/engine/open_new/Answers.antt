@@ -3,7 +3,7 @@ use Rattle.std.proofs.Common.{◌∙◌, List, Option, sym, subst}
 use Rattle.sg_view.specs.Viewing.{PlainView}
 use Rattle.sg_shell.specs.Working.{NamedBuilt, IsWorking, Begins}
 use Rattle.sg_shell.proofs.EngineLemmas.{passes_working}
-use Rattle.sg_shell.proofs.FlushLemmas.{passes_both}
+use Rattle.sg_shell.proofs.PassLemmas.{passes_both}
 use Rattle.sg_shell.proofs.NamedLemmas.{open_begins, open_is_full}
 use Rattle.sg_shell.proofs.engine.open_new.Goals as goal
 

@@ -25,3 +25,39 @@ pub returns-in_ok-suggest-in-Suggest-clause-reply :
     goal.returns-in_ok-suggest-in-Suggest-clause-reply
 returns-in_ok-suggest-in-Suggest-clause-reply c =
     rw c.in-Suggest.is (c.in_ok-suggest-in-Suggest.ensures.reply c.in-Suggest.lane)
+
+pub returns-in_err-flush_line-in-Flush-clause-working :
+    goal.returns-in_err-flush_line-in-Flush-clause-working
+returns-in_err-flush_line-in-Flush-clause-working c =
+    passes_working c.args.worker.now.core c.flush_line.new.core c.args.worker.now.opened.items
+    c.in_err-flush_line-in-Flush.ensures.passes c.requires.working
+
+pub returns-in_ok-flush_line-in-Flush-clause-reply :
+    goal.returns-in_ok-flush_line-in-Flush-clause-reply
+returns-in_ok-flush_line-in-Flush-clause-reply c =
+    rw c.in-Flush.is (c.in_ok-flush_line-in-Flush.ensures.reply
+    (worker_of c.args.worker.now.core c.args.worker.now.opened.items) refl)
+
+pub returns-in_ok-flush_line-in-Flush-clause-working :
+    goal.returns-in_ok-flush_line-in-Flush-clause-working
+returns-in_ok-flush_line-in-Flush-clause-working c =
+    passes_working c.args.worker.now.core c.flush_line.new.core c.args.worker.now.opened.items
+    c.in_ok-flush_line-in-Flush.ensures.passes c.requires.working
+
+pub returns-in_err-merge_line-in-Merge-clause-working :
+    goal.returns-in_err-merge_line-in-Merge-clause-working
+returns-in_err-merge_line-in-Merge-clause-working c =
+    passes_working c.args.worker.now.core c.merge_line.new.core c.args.worker.now.opened.items
+    c.in_err-merge_line-in-Merge.ensures.passes c.requires.working
+
+pub returns-in_ok-merge_line-in-Merge-clause-reply :
+    goal.returns-in_ok-merge_line-in-Merge-clause-reply
+returns-in_ok-merge_line-in-Merge-clause-reply c =
+    rw c.in-Merge.is (c.in_ok-merge_line-in-Merge.ensures.reply
+    (worker_of c.args.worker.now.core c.args.worker.now.opened.items) refl)
+
+pub returns-in_ok-merge_line-in-Merge-clause-working :
+    goal.returns-in_ok-merge_line-in-Merge-clause-working
+returns-in_ok-merge_line-in-Merge-clause-working c =
+    passes_working c.args.worker.now.core c.merge_line.new.core c.args.worker.now.opened.items
+    c.in_ok-merge_line-in-Merge.ensures.passes c.requires.working

@@ -4,9 +4,8 @@ use Rattle.index_core.specs.Histories.{Record}
 use Rattle.index_core.specs.Records.{frozen}
 use Rattle.index_core.specs.CurrentPieces.{after_lived}
 use Rattle.sg_shell.specs.declared.engine.TheConstants.{CALLER}
-use Rattle.sg_shell.proofs.FlushLemmas.{passes_both, same_passes}
-use Rattle.sg_shell.proofs.RefreshLemmas.{frozen_after_built, live_docs_stay, built_passes}
-use Rattle.sg_shell.proofs.RefreshLemmas.{lived_passes}
+use Rattle.sg_shell.proofs.PassLemmas.{passes_both, same_passes, built_passes, lived_passes}
+use Rattle.sg_shell.proofs.RefreshLemmas.{frozen_after_built, live_docs_stay}
 use Rattle.sg_shell.proofs.flushing.give.Goals as goal
 
 pub lived-requires-clause-within : goal.lived-requires-clause-within

@@ -4,7 +4,7 @@ use Rattle.std.specs.Prelude.{OnOk}
 use Rattle.segment.specs.Pieces.{PlainPiece}
 use Rattle.sg_shell.specs.declared.engine.TheConstants.{CALLER}
 use Rattle.sg_shell.specs.Workers.{refreshed}
-use Rattle.sg_shell.proofs.FlushLemmas.{passes_same}
+use Rattle.sg_shell.proofs.PassLemmas.{passes_same}
 use Rattle.sg_shell.proofs.flushing.refresh.Goals as goal
 
 pub returns-then-is_refreshed-clause-passes : goal.returns-then-is_refreshed-clause-passes

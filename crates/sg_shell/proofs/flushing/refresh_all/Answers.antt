@@ -3,7 +3,7 @@ use Rattle.std.proofs.Common.{map, refl}
 use Rattle.std.specs.Prelude.{fold}
 use Rattle.sg_shell.specs.declared.engine.TheConstants.{CALLER}
 use Rattle.sg_shell.specs.Workers.{refreshed}
-use Rattle.sg_shell.proofs.FlushLemmas.{passes_same, passes_both}
+use Rattle.sg_shell.proofs.PassLemmas.{passes_same, passes_both}
 use Rattle.sg_shell.proofs.ReadyLemmas.{one_more}
 use Rattle.sg_shell.proofs.flushing.refresh_all.Goals as goal
 
