@@ -96,17 +96,17 @@ tail_in : (n y : Match) (ys : List Match) → (n ≡ y → ⊥) → In n (y ∷ 
 tail_in n y ys d (inl e) = absurd (d e)
 tail_in n y ys d (inr i) = i
 
-step : (y : Match) (ys R R1 : List Match) → length R ≡ suc (length R1) → In y R
-    → ((x : Match) → In x R → (x ≡ y) ⊎ In x R1) → ((x : Match) → In x R1 → In x R) → Same ys R1
+step : (y : Match) (ys R S : List Match) → length R ≡ suc (length S) → In y R
+    → ((x : Match) → In x R → (x ≡ y) ⊎ In x S) → ((x : Match) → In x S → In x R) → Same ys S
     → Same (y ∷ ys) R
-step y ys R R1 l own parts back more x =
+step y ys R S l own parts back more x =
     subst (λ n. (In x (take n (y ∷ ys)) → In x R) × (In x R → In x (take n (y ∷ ys)))) (sym l) (
       λ i. elim i as (λ _. In x R) [
         | inl e ↦ subst (λ z. In z R) (sym e) own
         | inr j ↦ back x
             ((more x).0 j)
       ],
-      λ i. elim (parts x i) as (λ _. (x ≡ y) ⊎ In x (take (length R1) ys))
+      λ i. elim (parts x i) as (λ _. (x ≡ y) ⊎ In x (take (length S) ys))
           [ inl e ↦ inl e | inr j ↦ inr ((more x).1 j) ],
     )
 

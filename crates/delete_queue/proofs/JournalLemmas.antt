@@ -12,7 +12,8 @@ use Rattle.sg_paths.specs.Operations.{PlainOp, adds, updates, deletes, PlainNumb
 use Rattle.sg_paths.specs.LiveDocuments.{deletes_id, is_deleted}
 use Rattle.delete_queue.specs.Deletes.{NumberedDelete, delete_of, deletes_from, deletes_between}
 use Rattle.delete_queue.specs.Deletes.{is_between, reaches}
-use Rattle.delete_queue.specs.JournalDeletes.{AreConsecutive, Cover, DeletesSinceComplete}
+use Rattle.sg_paths.specs.Batches.{AreConsecutive, Cover}
+use Rattle.delete_queue.specs.JournalDeletes.{DeletesSinceComplete}
 use Rattle.delete_queue.proofs.RangeLemmas.{between_slice, deletes_at}
 
 -- ---- the batches as one list

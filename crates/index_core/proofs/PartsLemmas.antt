@@ -8,7 +8,7 @@ use Rattle.std.specs.List.{AllByRecursion}
 use Rattle.std.proofs.lemmas.Bool.Decides.{nat_tests}
 use Rattle.std.proofs.lemmas.List.{length-append, length-map, take_at}
 use Rattle.sg_paths.specs.Operations.{PlainOp, PlainNumbered, PlainBatch}
-use Rattle.segment.specs.Batches.{AreConsecutive}
+use Rattle.sg_paths.specs.Batches.{AreConsecutive}
 use Rattle.segment.specs.Pieces.{PlainPiece, piece_documents, live_docs_or_all}
 use Rattle.segment.specs.Views.{PlainParts, IsApplied, AreCovered, AreBuildable, IsBuildablePiece}
 use Rattle.index_core.specs.Histories.{Record}

@@ -2,15 +2,14 @@
 -- write the live documents of their sources and replace these.
 use Rattle.std.specs.Prelude.{◌≡◌, ◌≤◌, ◌<◌, ⊤, ℕ, true, false, not, List, [], ◌∷◌, ◌++◌}
 use Rattle.std.specs.Prelude.{length, filter, Some}
-use Rattle.std.specs.declared.cmp.Ordering.{Ordering}
 use Rattle.std.specs.List.{AllByRecursion, flat_map, list_any}
-use Rattle.std.specs.Ordering.{nat_cmp, on}
 use Rattle.sg_base.specs.Ranking.{in_order}
 use Rattle.sg_paths.specs.Operations.{PlainOp, PlainNumbered, documents_from}
 use Rattle.sg_paths.specs.LiveDocuments.{is_deleted, live_documents}
 use Rattle.segment.specs.Items.{HaveSameItems}
 use Rattle.segment.specs.Pieces.{PlainPiece}
 use Rattle.segment.specs.Views.{all_documents}
+pub use Rattle.merge_work.specs.Merging.{document_cmp}
 use Rattle.index_core.specs.Histories.{HistoryEvent, merge_begin, merge_end, Record, Merge}
 use Rattle.index_core.specs.Histories.{is_among, drawn_generation}
 use Rattle.index_core.specs.Histories as events
@@ -55,10 +54,6 @@ EndedMergesBring =
     (r : Record) (caller : ℕ) (m : Merge) (into : ℕ) (gone : List ℕ) → IsBegunMerge r m into
     → documents_of (with_event r (merge_end caller m.merge (Some into) gone)) into
     ≡ merged_documents r m
-
--- documents, the lesser number first
-abbrev pub document_cmp : PlainNumbered → PlainNumbered → Ordering
-document_cmp = on (λ d. d.seq) nat_cmp
 
 -- of some generations one at most holds a document
 abbrev pub OneHolds : Record → PlainNumbered → List ℕ → Type 0

@@ -1,10 +1,10 @@
 -- The history of an index as plain data, and what a list of its events says; what the whole record
 -- says stands in `Records`. Source: this project's own, after the sequence numbers, segments and
 -- point-in-time readers of Lucene's IndexWriter.
-use Rattle.std.specs.Prelude.{ℕ, Bool, not, nat_eq, Option, Some, None, List, [], ◌∷◌, length}
-use Rattle.std.specs.Prelude.{filter, fold}
-use Rattle.std.specs.List.{filter_map, flat_map, list_any}
+use Rattle.std.specs.Prelude.{ℕ, not, Option, Some, None, List, [], ◌∷◌, length, filter, fold}
+use Rattle.std.specs.List.{filter_map, flat_map}
 use Rattle.sg_paths.specs.Operations.{PlainOp}
+pub use Rattle.index_holds.specs.Holders.{is_among}
 use Rattle.index_core.specs.declared.event.Event.{Event}
 use Rattle.index_core.specs.declared.event.Event.TheVariants.{Accept, Seal, Begin, Built, Lived}
 use Rattle.index_core.specs.declared.event.Event.TheVariants.{MergeBegin, MergeEnd, MergeDrop, End}
@@ -51,10 +51,6 @@ pub record Merge : Type 0 where
   pub merge : ℕ
   pub upto : ℕ
   pub generations : List ℕ
-
--- whether a number is in the list
-abbrev pub is_among : ℕ → List ℕ → Bool
-is_among n numbers = list_any (nat_eq n) numbers
 
 -- the last of the numbers, or 0
 abbrev pub last_of : List ℕ → ℕ

@@ -1,11 +1,8 @@
+use crate::making::{batches_of, document_of};
 use delete_queue::dead_in;
 use seg_table::SegTable;
-use sg_base::{Bytes, Key, List, Text};
-use sg_paths::{
-    Batch, Document, MOST_SEGMENT_PATHS, Numbered, Op, Suggestion, paths_at_most, paths_of,
-};
+use sg_paths::{MOST_SEGMENT_PATHS, Numbered, paths_at_most, paths_of};
 use std::alloc::Global;
-use std::sync::Arc;
 use std::test::Fail;
 
 // A row each: its name, the documents of a table as id@number, batches with the number of the first
@@ -26,48 +23,6 @@ batches outside the range: a@1 b@3 | 1 +a -a / 3 +b / 4 -b / 5 -a | 2 4 => 1
 an add deletes nothing: a@1 | 1 +a +a | 1 2 =>
 an empty range: a@1 | 1 +a -a | 2 2 =>
 places rise, whatever the order of ids: z@1 y@2 x@3 | 1 +z +y +x -x -z | 3 5 => 0 2";
-
-fn document_of(alloc: Global, id: &str) -> Result<Document, Fail> {
-    let key = Key::of(Bytes::of(alloc, b"k")?)?;
-    let suggestion = Suggestion::new(Text::of(alloc, "k")?, key, 1, Vec::new(alloc))?;
-    let suggestions = vec![in alloc; suggestion]?;
-    Ok(Document::new(Text::of(alloc, id)?, suggestions)?)
-}
-
-fn op_of(alloc: Global, word: &str) -> Result<Op, Fail> {
-    if let Some(id) = word.strip_prefix('-') {
-        return Ok(Op::Delete(Text::of(alloc, id)?));
-    }
-    if let Some(id) = word.strip_prefix('=') {
-        return Ok(Op::Update(document_of(alloc, id)?));
-    }
-    let id = word.strip_prefix('+').ok_or("no operation")?;
-    Ok(Op::Add(document_of(alloc, id)?))
-}
-
-fn batch_of(alloc: Global, spelled: &str) -> Result<Batch, Fail> {
-    let (from, words) = spelled.split_once(' ').ok_or("no operations")?;
-    let from = from.parse::<u64>()?;
-    let mut ops = Vec::new(alloc);
-    for word in words.split_whitespace() {
-        ops.push(op_of(alloc, word)?)?;
-    }
-    let upto = from.saturating_add(ops.len() as u64).saturating_sub(1);
-    Ok(Batch {
-        from,
-        upto,
-        ops: List::of(ops),
-    })
-}
-
-fn batches_of(alloc: Global, spelled: &str) -> Result<Vec<Arc<Batch>>, Fail> {
-    let mut batches = Vec::new(alloc);
-    for part in spelled.split(" / ") {
-        let batch = batch_of(alloc, part)?;
-        batches.push(Arc::new(alloc, batch)?)?;
-    }
-    Ok(batches)
-}
 
 fn table_of(alloc: Global, spelled: &str) -> Result<SegTable, Fail> {
     let mut documents = Vec::new(alloc);

@@ -7,4 +7,8 @@ mod counts;
 #[cfg(test)]
 mod deletes;
 #[cfg(test)]
+mod making;
+#[cfg(test)]
 mod plans;
+#[cfg(test)]
+mod sharing;

@@ -1,6 +1,6 @@
 -- What a merge keeps is within the limits of a segment, and its numbers rise.
-use Rattle.std.proofs.Common.{◌≡◌, ◌≤◌, ◌<◌, ◌+◌, ℕ, zero, suc, Bool, true, false, cond, nat_eq}
-use Rattle.std.proofs.Common.{List, [], ◌∷◌, ◌++◌, length, map, refl, sym, ap, ◌∙◌, arith}
+use Rattle.std.proofs.Common.{◌≡◌, ◌≤◌, ◌<◌, ◌+◌, ℕ, Bool, true, false, cond, nat_eq}
+use Rattle.std.proofs.Common.{List, [], ◌∷◌, length, map, refl, ap, ◌∙◌, arith}
 use Rattle.std.proofs.Common.{length-append}
 use Rattle.std.specs.Prelude.{sum_by, count_by}
 use Rattle.std.specs.List.{flat_map}
@@ -9,19 +9,16 @@ use Rattle.std.proofs.lemmas.List.{length-map}
 use Rattle.std.proofs.lemmas.List.Recursion.{is_count_by}
 use Rattle.std.proofs.lemmas.List.Sorted.{sum_by-IsPermutation}
 use Rattle.std.proofs.lemmas.List.Sums.{sum_by-cons, sum_by-append}
-use Rattle.sg_base.specs.Ranking.{in_order}
 use Rattle.sg_base.proofs.InOrderLemmas.{moves-in_order}
 use Rattle.sg_paths.specs.declared.limits.TheConstants.{MOST_SEGMENT_DOCUMENTS}
 use Rattle.sg_paths.specs.declared.limits.TheConstants.{MOST_SEGMENT_PATHS}
 use Rattle.sg_paths.specs.Operations.{PlainNumbered, PlainBatch}
 use Rattle.sg_paths.specs.Paths.{paths}
 use Rattle.sg_paths.specs.AllPaths.{path_entries, entry_of}
-use Rattle.seg_live.specs.LiveDocs.{live_without}
-use Rattle.seg_table.specs.Ids.{places_from}
-use Rattle.segment.specs.Pieces.{PlainPiece, piece_documents, live_docs_or_all}
+use Rattle.segment.specs.Pieces.{PlainPiece, piece_documents}
 use Rattle.segment.specs.Represents.{RiseFrom, NumbersRise}
 use Rattle.segment.specs.Views.{all_documents}
-use Rattle.delete_queue.specs.Deletes.{is_dead_in}
+use Rattle.piece_docs.specs.PieceDocs.{live_docs_less}
 use Rattle.merge_work.specs.Merging.{document_cmp}
 use Rattle.merge_work.specs.Working.{live_of, kept_of, documents_kept, AreSources}
 use Rattle.merge_work.proofs.MergedLemmas.{RisesFrom, rises-in_order}
@@ -49,9 +46,7 @@ sum_by-kept_of f upto bs (p ∷ ps) =
     let whole = sum_by-append f (piece_documents p) (all_documents ps) in
     let kept = sum_by-append f (kept_of upto bs p) (flat_map (kept_of upto bs) ps) in
     let here =
-    sum_by-live_of f (piece_documents p)
-    (live_without 0 (places_from 0 (is_dead_in p.applied upto bs) (piece_documents p))
-    (live_docs_or_all (piece_documents p) p.live_docs)) in
+    sum_by-live_of f (piece_documents p) (live_docs_less upto bs p) in
     let later = sum_by-kept_of f upto bs ps in
     omega (arith, whole, kept, here, later)
 

@@ -13,7 +13,7 @@ use Rattle.sg_paths.specs.Paths.{paths}
 use Rattle.sg_paths.specs.LiveDocuments.{is_deleted}
 use Rattle.segment.specs.Pieces.{PieceBody, unbuilt, segment, PlainPiece, piece_documents}
 use Rattle.segment.specs.Pieces.{live_docs_or_all}
-use Rattle.segment.specs.Views.{PlainParts, all_documents}
+use Rattle.segment.specs.Views.{PlainParts, AreCovered, all_documents}
 
 -- a body that is a segment
 abbrev pub HasSegment : PieceBody → Type 0
@@ -56,3 +56,9 @@ unless_empty (d ∷ ds) = Some (d ∷ ds)
 pub record PlainDone : Type 0 where
   pub parts : PlainParts
   pub segment : Option (List PlainNumbered)
+
+-- it brings what the merge keeps, by each journal that the parts cover
+abbrev pub IsWorked : PlainDone → Type 0
+IsWorked d =
+    (journal : List PlainOp) → AreCovered journal d.parts
+    → d.segment ≡ unless_empty (merged_documents journal d.parts)

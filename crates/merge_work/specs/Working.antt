@@ -7,11 +7,9 @@ use Rattle.sg_paths.specs.declared.limits.TheConstants.{MOST_SEGMENT_DOCUMENTS}
 use Rattle.sg_paths.specs.declared.limits.TheConstants.{MOST_SEGMENT_PATHS}
 use Rattle.sg_paths.specs.Operations.{PlainNumbered, PlainBatch}
 use Rattle.sg_paths.specs.Paths.{paths}
-use Rattle.seg_live.specs.LiveDocs.{live_without}
-use Rattle.seg_table.specs.Ids.{places_from}
-use Rattle.segment.specs.Pieces.{PlainPiece, piece_documents, live_docs_or_all}
+use Rattle.segment.specs.Pieces.{PlainPiece, piece_documents}
 use Rattle.segment.specs.Views.{all_documents}
-use Rattle.delete_queue.specs.Deletes.{is_dead_in}
+use Rattle.piece_docs.specs.PieceDocs.{live_docs_less}
 use Rattle.merge_work.specs.Merging.{IsSource, document_cmp}
 
 -- the document behind the last
@@ -27,9 +25,7 @@ live_of (d ∷ ds) (live ∷ later) = if live then d ∷ live_of ds later else l
 -- the live documents of a source, less those that batches delete, up to upto
 abbrev pub kept_of : ℕ → List PlainBatch → PlainPiece → List PlainNumbered
 kept_of upto batches p =
-    live_of (piece_documents p)
-    (live_without 0 (places_from 0 (is_dead_in p.applied upto batches) (piece_documents p))
-    (live_docs_or_all (piece_documents p) p.live_docs))
+    live_of (piece_documents p) (live_docs_less upto batches p)
 
 -- those of all sources, by number
 abbrev pub documents_kept : ℕ → List PlainBatch → List PlainPiece → List PlainNumbered

@@ -1,7 +1,7 @@
 //! Merges that are worked.
 ghost use Rattle.std.specs.Prelude.{◌≡◌, option_map};
 ghost use Rattle.segment.specs.Views.{PlainParts};
-ghost use Rattle.merge_work.specs.Merging.{PlainDone};
+ghost use Rattle.merge_work.specs.Merging.{IsWorked, PlainDone};
 
 use segment::{MergeParts, Segment};
 use std::marker::Model;
@@ -16,7 +16,7 @@ pub struct MergeDone {
 
 impl Model for MergeDone {
     ghost use Rattle.std.specs.Prelude.{option_map};
-    ghost use Rattle.merge_work.specs.Merging.{PlainDone};
+    ghost use Rattle.merge_work.specs.Merging.{IsWorked, PlainDone};
 
     ghost Value = { PlainDone };
 
@@ -24,10 +24,19 @@ impl Model for MergeDone {
       parts = d.parts;
       segment = option_map (λ s. s.value) d.segment;
     } };
+
+    ghost invariant = { λ d. IsWorked (record {
+      parts = d.parts;
+      segment = option_map (λ s. s.value) d.segment;
+    }) };
 }
 
 impl MergeDone {
     pub(crate) fn of(parts: MergeParts, segment: Option<Arc<Segment>>) -> MergeDone
+        requires { IsWorked (record {
+          parts = parts;
+          segment = option_map (λ s. s.value) segment;
+        }) }
         ensures parts { result.parts ≡ parts }
         ensures segment { result.segment ≡ option_map (λ s. s.value) segment }
     {
@@ -38,6 +47,7 @@ impl MergeDone {
     pub fn parts(self) -> (MergeParts, Option<Arc<Segment>>)
         ensures parts { result.0 ≡ self.parts }
         ensures segment { option_map (λ s. s.value) result.1 ≡ self.segment }
+        ensures worked { IsWorked self }
     {
         let MergeDone { parts, segment } = self;
         (parts, segment)

@@ -1,15 +1,12 @@
 //! The live documents of one source.
-ghost use Rattle.std.specs.Prelude.{◌≡◌, ◌<◌, ◌∷◌, ◌++◌, [], IfOk, OnOk, length, map};
-ghost use Rattle.std.specs.Prelude.{option_map};
-ghost use Rattle.std.specs.List.{All};
-ghost use Rattle.seg_live.specs.LiveDocs.{live_without};
-ghost use Rattle.segment.specs.Pieces.{body_of, body_documents, live_docs_or_all};
+ghost use Rattle.std.specs.Prelude.{◌≡◌, ◌∷◌, ◌++◌, [], IfOk, OnOk, length, map};
+ghost use Rattle.segment.specs.Pieces.{body_of, body_documents};
 ghost use Rattle.segment.specs.Represents.{NumbersRise};
 ghost use Rattle.merge_work.specs.Merging.{HasSegment, IsSource};
 ghost use Rattle.merge_work.specs.Working.{kept_of, live_of};
 
 use crate::document_ref::DocumentRef;
-use delete_queue::dead_in;
+use piece_docs::live_docs_less;
 use seg_live::Live;
 use seg_table::SegTable;
 use segment::{Kind, Piece, Segment};
@@ -25,26 +22,6 @@ pub(crate) fn segment_of(kind: &Kind) -> &Segment
     match kind {
         Kind::Built(segment) => segment,
         Kind::Raw(_) => unreachable!(),
-    }
-}
-
-/// The live docs of a table, where none are said for all being live, less the documents at these
-/// places.
-fn live_without(
-    alloc: Global,
-    live: &Option<Arc<Live>>,
-    table: &SegTable,
-    dead: &[u32],
-) -> Result<Live, AllocError>
-    requires counted { length (live_docs_or_all table.now (option_map (λ l. l.value) live.now))
-        ≡ length table.now }
-    requires within { All (λ place. place < length table.now) dead.now }
-    ensures { IfOk result (λ l. l ≡ live_without 0 dead.now
-        (live_docs_or_all table.now (option_map (λ l. l.value) live.now))) }
-{
-    match live {
-        Some(live) => live.with_dead(dead),
-        None => Live::all(alloc, table.len())?.with_dead(dead),
     }
 }
 
@@ -93,8 +70,7 @@ pub(crate) fn live_documents<'a>(
 {
     let segment = segment_of(&piece.kind);
     let table = segment.table();
-    let dead = dead_in(alloc, table, piece.applied, upto, batches)?;
-    let live = live_without(alloc, &piece.live, table, dead.as_slice())?;
+    let live = live_docs_less(alloc, piece, table, upto, batches)?;
     let kept = kept_of(alloc, table, &live)?;
     Ok(kept)
 }

@@ -5,6 +5,7 @@ use sg_shell::{Status, run};
 use std::alloc::Global;
 use std::io;
 use std::io::Write;
+use std::sync::Wait;
 use std::test::Fail;
 
 // An add and a query, 97 bytes by lines of 66 and 31. Their replies have 111.
@@ -49,12 +50,18 @@ fn numbers_of(alloc: Global, spelled: &str) -> Result<Vec<u64>, Fail> {
 }
 
 // How a run ends, as it is told in the table.
-fn end_of(alloc: Global, words: &str, takes: &str, puts: &str) -> Result<String, Fail> {
+fn end_of(
+    wait: &impl Wait,
+    alloc: Global,
+    words: &str,
+    takes: &str,
+    puts: &str,
+) -> Result<String, Fail> {
     let words = words_of(alloc, words)?;
     let input = INPUT.as_bytes().to_vec(alloc)?;
     let mut source = MemorySource::new(input, true, numbers_of(alloc, takes)?);
     let mut sink = MemorySink::new(numbers_of(alloc, puts)?);
-    let status = run(alloc, words.as_slice(), &mut source, &mut sink);
+    let status = run(wait, alloc, words.as_slice(), &mut source, &mut sink);
     let left = source.left().len();
     let written = sink.given().len();
     Ok(format!(in alloc; "{status:?}, {left} left, {written} written")?)
@@ -68,7 +75,7 @@ fn each_end_has_its_status(rt: HostRuntime) -> Result<(), Fail> {
         let (words, row) = row.split_once("|").ok_or("no words")?;
         let (takes, row) = row.split_once("|").ok_or("no takes")?;
         let (puts, wanted) = row.split_once("|").ok_or("no puts")?;
-        let end = end_of(alloc, words, takes, puts)?;
+        let end = end_of(&rt, alloc, words, takes, puts)?;
         assert_eq!(rt; end.as_str(), wanted, "{name}");
     }
     Ok(())
@@ -84,7 +91,7 @@ fn a_take_has_room_for_65536_bytes(rt: HostRuntime) -> Result<(), Fail> {
         numbers_of(alloc, "2")?,
     );
     let mut sink = MemorySink::new(Vec::new(alloc));
-    let status = run(alloc, words.as_slice(), &mut source, &mut sink);
+    let status = run(&rt, alloc, words.as_slice(), &mut source, &mut sink);
     assert_eq!(rt; status, Status::ReadFault);
     assert_eq!(rt; source.left().len(), 1);
     Ok(())
@@ -113,11 +120,11 @@ impl Write for Pipe {
     }
 }
 
-fn status_into(alloc: Global, pipe: Pipe) -> Result<Status, Fail> {
+fn status_into(wait: &impl Wait, alloc: Global, pipe: Pipe) -> Result<Status, Fail> {
     let words = words_of(alloc, "+run")?;
     let mut source = StdSource::new(INPUT.as_bytes());
     let mut sink = StdSink::new(pipe);
-    Ok(run(alloc, words.as_slice(), &mut source, &mut sink))
+    Ok(run(wait, alloc, words.as_slice(), &mut source, &mut sink))
 }
 
 #[test]
@@ -130,13 +137,13 @@ fn a_writer_that_fails_is_a_write_fault(rt: HostRuntime) -> Result<(), Fail> {
             room: 111,
             fails,
         };
-        assert_eq!(rt; status_into(alloc, narrow)?, Status::Done);
+        assert_eq!(rt; status_into(&rt, alloc, narrow)?, Status::Done);
         let full = Pipe {
             piece,
             room: 20,
             fails,
         };
-        assert_eq!(rt; status_into(alloc, full)?, Status::WriteFault);
+        assert_eq!(rt; status_into(&rt, alloc, full)?, Status::WriteFault);
     }
     Ok(())
 }

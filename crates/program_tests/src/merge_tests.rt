@@ -20,7 +20,7 @@ fn a_flush_builds_what_is_buffered(rt: HostRuntime) -> Result<(), Fail> {
 {"built":0,"line":5}
 {"complete":true,"line":6,"rows":[{"id":"x","score":1,"seq":1,"text":"Alpha"}],"upto":2}
 "#;
-    assert_eq!(rt; output_of(alloc, input)?.as_str(), wanted);
+    assert_eq!(rt; output_of(&rt, alloc, input)?.as_str(), wanted);
     Ok(())
 }
 
@@ -46,7 +46,7 @@ fn a_view_stays_where_its_segments_are_merged(rt: HostRuntime) -> Result<(), Fai
 {"complete":true,"line":7,"rows":[{"id":"x","score":1,"seq":2,"text":"Alpine"}],"upto":2}
 {"closed":"v","line":8}
 "#;
-    assert_eq!(rt; output_of(alloc, input)?.as_str(), wanted);
+    assert_eq!(rt; output_of(&rt, alloc, input)?.as_str(), wanted);
     Ok(())
 }
 
@@ -70,7 +70,7 @@ fn ten_segments_are_merged_into_one(rt: HostRuntime) -> Result<(), Fail> {
 {"line":32,"merged":0}
 {"complete":true,"line":33,"rows":[{"id":"t1","score":1,"seq":1,"text":"Ten"}],"upto":10}
 "#;
-    let output = output_of(alloc, input.as_bytes())?;
+    let output = output_of(&rt, alloc, input.as_bytes())?;
     assert!(rt; output.as_str().ends_with(wanted), "{output}");
     Ok(())
 }
@@ -95,6 +95,6 @@ fn each_faulty_line_has_its_own_error(rt: HostRuntime) -> Result<(), Fail> {
 {"error":"key","line":4}
 {"error":"json","line":5}
 "#;
-    assert_eq!(rt; output_of(alloc, input.as_slice())?.as_str(), wanted);
+    assert_eq!(rt; output_of(&rt, alloc, input.as_slice())?.as_str(), wanted);
     Ok(())
 }

@@ -77,7 +77,7 @@ fn a_query_over_all_finds_what_the_plain_program_finds(rt: HostRuntime) -> Resul
         let wanted = format!(in alloc;
             "{{\"complete\":true,\"line\":{line},\"rows\":[{rows}],\"upto\":{upto}}}"
         )?;
-        let output = output_of(alloc, input.as_bytes())?;
+        let output = output_of(&rt, alloc, input.as_bytes())?;
         let last = output.lines().last().ok_or("no reply")?;
         assert_eq!(rt; last, wanted.as_str(), "{spelled}");
     }

@@ -3,15 +3,16 @@ use sg_base::Text;
 use sg_edge::{MemorySink, MemorySource};
 use sg_shell::{Status, run};
 use std::alloc::Global;
+use std::sync::Wait;
 use std::test::Fail;
 
 /// The output to an input, of a run that is done.
-pub fn output_of(alloc: Global, input: &[u8]) -> Result<String, Fail> {
+pub fn output_of(wait: &impl Wait, alloc: Global, input: &[u8]) -> Result<String, Fail> {
     let mut words = Vec::new(alloc);
     words.push(Text::of(alloc, "run")?)?;
     let mut source = MemorySource::new(input.to_vec(alloc)?, false, Vec::new(alloc));
     let mut sink = MemorySink::new(Vec::new(alloc));
-    if run(alloc, words.as_slice(), &mut source, &mut sink) != Status::Done {
+    if run(wait, alloc, words.as_slice(), &mut source, &mut sink) != Status::Done {
         return Err("the run isn't done".into());
     }
     Ok(String::from_str(alloc, std::str::from_utf8(sink.given())?)?)
@@ -111,7 +112,7 @@ fn a_long_run_is_done(rt: HostRuntime) -> Result<(), Fail> {
         }
     }
     script.push_query(alloc, 1_000, best_rows(alloc)?.as_str())?;
-    let output = output_of(alloc, script.input.as_bytes())?;
+    let output = output_of(&rt, alloc, script.input.as_bytes())?;
     assert!(rt; output.as_str() == script.output.as_str(), "another output");
     Ok(())
 }
@@ -119,9 +120,9 @@ fn a_long_run_is_done(rt: HostRuntime) -> Result<(), Fail> {
 #[test]
 fn lines_are_split_at_line_feeds(rt: HostRuntime) -> Result<(), Fail> {
     let alloc = rt.alloc();
-    assert_eq!(rt; output_of(alloc, b"")?.as_str(), "");
-    assert_eq!(rt; output_of(alloc, b"\n\n \n\t")?.as_str(), "");
-    let output = output_of(alloc, b"\n[\n\n \t\r\n[]\r\n\n{")?;
+    assert_eq!(rt; output_of(&rt, alloc, b"")?.as_str(), "");
+    assert_eq!(rt; output_of(&rt, alloc, b"\n\n \n\t")?.as_str(), "");
+    let output = output_of(&rt, alloc, b"\n[\n\n \t\r\n[]\r\n\n{")?;
     let wanted = r#"{"error":"json","line":2}
 {"error":"shape","line":5}
 {"error":"json","line":7}

@@ -16,7 +16,7 @@ fn lines_open_no_more_than_256_views(rt: HostRuntime) -> Result<(), Fail> {
     }
     input.push_str("{\"op\":\"suggest\",\"prefix\":\"a\"}\n")?;
     output.push_str("{\"error\":\"views\",\"line\":257}\n")?;
-    let given = output_of(alloc, input.as_bytes())?;
+    let given = output_of(&rt, alloc, input.as_bytes())?;
     assert_eq!(rt; given.as_str(), output.as_str());
     Ok(())
 }
@@ -39,7 +39,7 @@ fn a_named_view_stays_as_it_is(rt: HostRuntime) -> Result<(), Fail> {
 {"complete":true,"line":5,"rows":[{"id":"x","score":1,"seq":2,"text":"Alpine"}],"upto":2}
 {"closed":"v","line":6}
 "#;
-    assert_eq!(rt; output_of(alloc, input)?.as_str(), wanted);
+    assert_eq!(rt; output_of(&rt, alloc, input)?.as_str(), wanted);
     Ok(())
 }
 
@@ -56,7 +56,7 @@ fn only_open_views_are_closed_and_only_others_are_opened(rt: HostRuntime) -> Res
 {"error":"view","line":3}
 {"error":"view","line":4}
 "#;
-    assert_eq!(rt; output_of(alloc, input)?.as_str(), wanted);
+    assert_eq!(rt; output_of(&rt, alloc, input)?.as_str(), wanted);
     Ok(())
 }
 
@@ -74,7 +74,7 @@ fn deleted_documents_widen_the_queue(rt: HostRuntime) -> Result<(), Fail> {
         input.push_str(line.as_str())?;
     }
     input.push_str("{\"op\":\"suggest\",\"prefix\":\"oy\",\"k\":1}\n")?;
-    let output = output_of(alloc, input.as_bytes())?;
+    let output = output_of(&rt, alloc, input.as_bytes())?;
     let wanted =
         r#"{"complete":true,"line":24,"rows":[{"id":"e12","score":1,"seq":12,"text":"Oy"}],"upto":23}"#;
     assert_eq!(rt; output.lines().last().ok_or("no reply")?, wanted);
@@ -92,7 +92,7 @@ fn a_queue_of_one_truncates(rt: HostRuntime) -> Result<(), Fail> {
 "#;
     let wanted =
         r#"{"complete":true,"line":3,"rows":[{"id":"d2","score":5,"seq":2,"text":"abc"}],"upto":2}"#;
-    let output = output_of(alloc, input)?;
+    let output = output_of(&rt, alloc, input)?;
     assert_eq!(rt; output.lines().last().ok_or("no reply")?, wanted);
     let input = br#"{"op":"add","id":"d1","suggest":{"input":"abz","weight":5,"contexts":"a"}}
 {"op":"add","id":"d2","suggest":{"input":"abc","weight":5,"contexts":"b"}}
@@ -100,7 +100,7 @@ fn a_queue_of_one_truncates(rt: HostRuntime) -> Result<(), Fail> {
 "#;
     let wanted =
         r#"{"complete":false,"cut":{"key":"6162","room":1,"score":5,"segment":1},"line":3,"rows":[],"upto":2}"#;
-    let output = output_of(alloc, input)?;
+    let output = output_of(&rt, alloc, input)?;
     assert_eq!(rt; output.lines().last().ok_or("no reply")?, wanted);
     Ok(())
 }

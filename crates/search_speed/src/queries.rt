@@ -61,7 +61,7 @@ struct Group {
 fn all_live(alloc: Global, count: u32) -> io::Result<Live>
     ensures { IfOk result (λ live. length live ≡ count) }
 {
-    let live = Live::all(alloc, count)?;
+    let live = Live::all(alloc, count);
     Ok(live)
 }
 

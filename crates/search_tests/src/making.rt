@@ -93,7 +93,7 @@ fn places_of(alloc: Global, count: u32, spelled: &str) -> Result<Vec<u32>, Fail>
 fn all_live(alloc: Global, count: u32) -> Result<Live, Fail>
     ensures { IfOk result (λ live. length live ≡ count) }
 {
-    let live = Live::all(alloc, count)?;
+    let live = Live::all(alloc, count);
     Ok(live)
 }
 

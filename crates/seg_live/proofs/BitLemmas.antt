@@ -6,10 +6,12 @@ use Rattle.std.proofs.Common.{set, bit_and, replicate, nat_eq, eq-eqb, add-zero}
 use Rattle.std.specs.Int.{bit_at, bit_not, w64}
 use Rattle.std.specs.List.{list_any}
 use Rattle.std.proofs.lemmas.Bool.{cases_eq, ne_eqb}
-use Rattle.std.proofs.lemmas.List.{get_or-set_same, get_or-set_other}
+use Rattle.std.proofs.Common.{Option, Some, None}
+use Rattle.std.specs.Option.{IfSome}
+use Rattle.std.proofs.lemmas.List.{get_or-set_same, get_or-set_other, length-replicate}
 use Rattle.std.proofs.lemmas.Nat.Bits.{bit_at_clear_same, bit_at_clear_other, bit_at_ones}
 use Rattle.seg_live.specs.LiveDocs.{live_count, live_without}
-use Rattle.seg_live.specs.Bits.{is_set, bits_from}
+use Rattle.seg_live.specs.Bits.{is_set, bits_from, bits_or_all}
 
 -- a word with a bit cleared
 abbrev pub cleared_word : ℕ → ℕ → ℕ
@@ -212,3 +214,9 @@ pub length_without : (n : ℕ) (ps : List ℕ) (ms : List Bool)
     → length (live_without n ps ms) ≡ length ms
 length_without n ps [] = refl
 length_without n ps (m ∷ ms) = ap suc (length_without (n + 1) ps ms)
+
+-- there are as many live docs as documents, with bits or without
+pub length_bits_or_all : (k : ℕ) (bits : Option (List Bool)) → IfSome bits (λ b. length b ≡ k)
+    → length (bits_or_all k bits) ≡ k
+length_bits_or_all k None h = length-replicate k true
+length_bits_or_all k (Some bits) h = h

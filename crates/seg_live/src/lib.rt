@@ -2,6 +2,7 @@
 //! Views and merges share them; contracts see the list of bits.
 #![tactic(auto)]
 
+mod bits;
 mod live;
 
 pub use live::Live;

@@ -1,72 +1,44 @@
-//! A bit for each document.
-ghost use Rattle.std.specs.Prelude.{◌≡◌, ◌≤◌, ◌<◌, ◌-◌, ◌*◌, ◌/◌, ◌%◌, ◌^◌, ◌∷◌, []};
-ghost use Rattle.std.specs.Prelude.{Bool, true, get_or, set, bit_and, IfOk, length, replicate};
-ghost use Rattle.std.specs.Int.{bit_not, w64};
+//! Which documents are live.
+ghost use Rattle.std.specs.Prelude.{◌≡◌, ◌<◌, ◌∷◌, [], Bool, true, get_or, IfOk, length, replicate};
 ghost use Rattle.std.specs.List.{All};
 ghost use Rattle.seg_live.specs.LiveDocs.{live_count, live_without};
-ghost use Rattle.seg_live.specs.Bits.{is_set};
 
+use crate::bits::Bits;
 use std::alloc::{AllocError, Global};
 use std::marker::Model;
 
-/// Which documents of a segment are live, by place.
+/// Which documents of a segment are live, by place. A bit for each, and nothing where none was
+/// deleted.
 #[derive(Debug, Drop)]
 pub struct Live {
-    /// The bit of a place is in its 64th part, the lowest first.
-    words: Vec<u64>,
+    alloc: Global,
     len: u32,
-    count: u32,
+    /// None while all are live.
+    bits: Option<Bits>,
 }
 
 impl Model for Live {
-    ghost use Rattle.std.specs.Prelude.{List, Bool, ◌≤◌, ◌≡◌, ◌*◌, length};
-    ghost use Rattle.seg_live.specs.LiveDocs.{live_count};
-    ghost use Rattle.seg_live.specs.Bits.{bits_from};
+    ghost use Rattle.std.specs.Prelude.{◌≡◌, List, Bool, length};
+    ghost use Rattle.std.specs.Option.{IfSome};
+    ghost use Rattle.seg_live.specs.Bits.{bits_or_all};
 
     ghost Value = { List Bool };
 
-    ghost view = { λ l. bits_from l.words.items 0 l.len };
+    ghost view = { λ l. bits_or_all l.len l.bits };
 
-    ghost invariant = { λ l. (l.len ≤ 64 * length l.words.items)
-        × (l.count ≡ live_count (bits_from l.words.items 0 l.len)) };
-}
-
-fn is_bit_set(words: &[u64], place: u32) -> bool
-    requires { place < 64 * length words.now }
-    ensures { result ≡ is_set words.now place }
-{
-    (words[(place / 64) as usize] >> (place % 64)) & 1 == 1
-}
-
-fn word_at(words: &[u64], at: usize) -> u64
-    requires { at < length words.now }
-    ensures { result ≡ get_or words.now at 0 }
-{
-    words[at]
-}
-
-fn clear_bit(words: &mut Vec<u64>, place: u32)
-    requires { place < 64 * length words.old.items }
-    ensures { words.new.items ≡ set words.old.items (place / 64)
-        (bit_and (get_or words.old.items (place / 64) 0)
-        (bit_not w64 (1 * 2 ^ (place % 64) % 2 ^ 64))) }
-{
-    let at = (place / 64) as usize;
-    let word = word_at(words.as_slice(), at);
-    words[at] = word & !(1u64 << (place % 64));
+    ghost invariant = { λ l. IfSome l.bits (λ b. length b ≡ l.len) };
 }
 
 impl Live {
-    /// All of so many documents are live.
-    pub fn all(alloc: Global, count: u32) -> Result<Live, AllocError>
-        ensures { IfOk result (λ live. live ≡ replicate count true) }
+    /// All of so many documents are live. Takes no memory.
+    pub fn all(alloc: Global, count: u32) -> Live
+        ensures { result ≡ replicate count true }
     {
-        let words = count.div_ceil(64) as usize;
-        Ok(Live {
-            words: vec![in alloc; u64::MAX; words]?,
+        Live {
+            alloc,
             len: count,
-            count,
-        })
+            bits: None,
+        }
     }
 
     /// Whether the document at a place is live.
@@ -74,46 +46,45 @@ impl Live {
         requires { doc < length self.now }
         ensures { (b : Bool) → result ≡ get_or self.now doc b }
     {
-        is_bit_set(self.words.as_slice(), doc)
+        match &self.bits {
+            Some(bits) => bits.is_live(doc),
+            None => true,
+        }
     }
 
     /// How many documents are live.
     pub fn count(&self) -> u32
         ensures { result ≡ live_count self.now }
     {
-        self.count
-    }
-
-    fn copy(&self) -> Result<Live, AllocError>
-        ensures { IfOk result (λ live. live ≡ self.now) }
-    {
-        Ok(Live {
-            words: Vec::from_slice(*self.words.allocator(), self.words.as_slice())?,
-            len: self.len,
-            count: self.count,
-        })
-    }
-
-    fn delete(&mut self, doc: u32)
-        requires { doc < length self.old }
-        ensures { self.new ≡ live_without 0 (doc ∷ []) self.old }
-    {
-        if !is_bit_set(self.words.as_slice(), doc) {
-            return;
+        match &self.bits {
+            Some(bits) => bits.count(),
+            None => self.len,
         }
-        clear_bit(&mut self.words, doc);
-        self.count -= 1;
     }
 
-    /// The same without the documents at these places: a copy of the words, and a step a place.
+    // The bits of all documents.
+    fn bits_of(&self) -> Result<Bits, AllocError>
+        ensures { IfOk result (λ bits. bits ≡ self.now) }
+    {
+        match &self.bits {
+            Some(bits) => bits.copy(),
+            None => Bits::all(self.alloc, self.len),
+        }
+    }
+
+    /// The same without the documents at these places: a copy of the bits, and a step a place.
     pub fn with_dead(&self, dead: &[u32]) -> Result<Live, AllocError>
         requires { All (λ doc. doc < length self.now) dead.now }
         ensures { IfOk result (λ live. live ≡ live_without 0 dead.now self.now) }
     {
-        let mut live = self.copy()?;
+        let mut bits = self.bits_of()?;
         for doc in dead {
-            live.delete(*doc);
+            bits.delete(*doc);
         }
-        Ok(live)
+        Ok(Live {
+            alloc: self.alloc,
+            len: self.len,
+            bits: Some(bits),
+        })
     }
 }

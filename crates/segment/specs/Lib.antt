@@ -7,6 +7,5 @@ pub mod Example
 pub mod Checking
 pub mod Laws
 pub mod Items
-pub mod Batches
 pub mod Pieces
 pub mod Views

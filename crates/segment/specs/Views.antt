@@ -4,7 +4,7 @@ use Rattle.std.specs.Prelude.{◌≡◌, ◌≤◌, ◌<◌, ◌+◌, ◌^◌, �
 use Rattle.std.specs.List.{flat_map, AllByRecursion}
 use Rattle.sg_paths.specs.Operations.{PlainOp, PlainNumbered, PlainBatch}
 use Rattle.sg_paths.specs.LiveDocuments.{is_deleted, live_documents}
-use Rattle.segment.specs.Batches.{Cover}
+use Rattle.sg_paths.specs.Batches.{Cover}
 use Rattle.segment.specs.Items.{HaveSameItems}
 use Rattle.segment.specs.Pieces.{PlainPiece, PieceBody, unbuilt, segment, piece_documents}
 use Rattle.segment.specs.Pieces.{live_docs_or_all, live_docs_at}

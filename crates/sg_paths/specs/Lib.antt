@@ -1,6 +1,7 @@
 pub mod Limits
 pub mod Documents
 pub mod Operations
+pub mod Batches
 pub mod LiveDocuments
 pub mod Paths
 pub mod AllPaths

@@ -14,7 +14,7 @@ use Rattle.wire_replies.specs.Replies.{numbered, failed}
 use Rattle.wire_replies.specs.declared.error_kind.ErrorKind.TheVariants.{Full}
 use Rattle.sg_shell.specs.Workers.{Worker, with_seen, Step, says, accept_step}
 use Rattle.sg_shell.specs.Working.{Answers}
-use Rattle.sg_shell.specs.declared.engine.TheConstants.{CALLER}
+use Rattle.index_single.specs.declared.caller.TheConstants.{CALLER}
 use Rattle.sg_shell.proofs.EngineLemmas.{answers_says}
 
 abbrev by_room : ℕ → PlainOp → Worker → Bool → Step

@@ -1,6 +1,6 @@
 -- Views that begin: what they see, and what is left where one has ended again.
 use Rattle.std.proofs.Common.{◌≡◌, ◌≤◌, ◌<◌, ◌+◌, ℕ, Bool, true, false, cond, not, List, [], ◌∷◌, ◌++◌}
-use Rattle.std.proofs.Common.{length, map, take, refl, sym, ap, ◌∙◌, subst, arith, add-zero, append-nil}
+use Rattle.std.proofs.Common.{length, map, take, refl, sym, ap, ◌∙◌, subst, arith}
 use Rattle.std.specs.Prelude.{filter, Contains, Some}
 use Rattle.std.specs.List.{AllByRecursion, flat_map}
 use Rattle.std.proofs.lemmas.List.{take_all}
@@ -12,23 +12,25 @@ use Rattle.sg_answers.proofs.TakingLemmas.{filter_at_most}
 use Rattle.segment.specs.Items.{total_of}
 use Rattle.segment.specs.Pieces.{PlainPiece, piece_documents}
 use Rattle.segment.specs.Views.{PlainParts, AreParts, all_documents}
-use Rattle.index_core.specs.Histories.{Record, View, is_among, view_end}
-use Rattle.index_core.specs.Histories as events
+use Rattle.index_core.specs.Histories.{Record, View, is_among}
 use Rattle.index_core.specs.declared.limits.TheConstants.{MOST_OPEN_VIEWS}
-use Rattle.index_core.specs.Records.{accepted, drawn, next_generation, open_views}
+use Rattle.index_core.specs.Records.{accepted, current, open_views}
 use Rattle.index_core.specs.Generations.{documents_of, holders_of}
+use Rattle.index_core.specs.HeldGenerations.{WereDrawn}
+use Rattle.index_core.specs.LegalHistories.{IsLegal}
 use Rattle.index_core.specs.OpenViews.{view_of}
-use Rattle.index_core.specs.Calls.{after_freeze, after_begin, after_end, begun_by, released_by_end}
+use Rattle.index_core.specs.Calls.{after_freeze, after_begin, after_end, begun_by}
 use Rattle.index_core.specs.CurrentPieces.{AreOf}
+use Rattle.index_core.proofs.SoundLemmas.{current_were}
+use Rattle.index_single.specs.declared.caller.TheConstants.{CALLER}
 use Rattle.sg_view.specs.Viewing.{PlainView, Represents, IsViewOf}
 use Rattle.sg_shell.specs.Runs.{segment_seen, segments_seen}
 use Rattle.sg_shell.specs.Viewed.{ArePartOf, IsSegmentOf, IsViewIn}
-use Rattle.sg_shell.specs.Working.{IsRunning, Stays, Passes, IsShown, Begins, view_in}
-use Rattle.sg_shell.specs.declared.engine.TheConstants.{CALLER}
-use Rattle.sg_shell.proofs.GainLemmas.{gains-freeze, gains-begin}
+use Rattle.sg_shell.specs.Working.{Passes, IsShown, Begins, view_in}
+use Rattle.sg_shell.proofs.GainLemmas.{gains-freeze, gains-begin, gains-end, gains-then}
 use Rattle.sg_shell.proofs.HoldingLemmas.{passed_holds}
+use Rattle.sg_shell.proofs.PassLemmas.{gained_passes}
 use Rattle.sg_shell.proofs.ReportLemmas.{built_sees}
-use Rattle.sg_shell.proofs.StayLemmas.{stays_both, stays_freeze, stays_view_begin, stays_view_end}
 
 -- ---- what a view sees that has begun
 
@@ -80,20 +82,10 @@ segments_in r n added (g ∷ gs) is = (
   segments_in r n added gs is,
 )
 
-filter_all : (P : ℕ → Type 0) (t : ℕ → Bool) (ns : List ℕ) → AllByRecursion P ns
-    → AllByRecursion P (filter t ns)
-filter_all P t [] all = tt
-filter_all P t (n ∷ ns) all = by_test (t n) (filter_all P t ns all.1)
-  where
-    by_test : (b : Bool) → AllByRecursion P (filter t ns)
-        → AllByRecursion P (cond b (n ∷ filter t ns) (filter t ns))
-    by_test true later = (all.0, later)
-    by_test false later = later
-
 -- parts of everything are of a view in the record
-pub begun_in : (r : Record) (caller : ℕ) (parts : PlainParts) → IsRunning r → AreOf r parts
+pub begun_in : (r : Record) (caller : ℕ) (parts : PlainParts) → AreOf r parts
     → parts.upto ≡ length r.journal → IsViewIn r (view_of caller parts)
-begun_in r caller parts running of whole =
+begun_in r caller parts of whole =
     let all : take parts.upto r.journal ≡ r.journal =
     take_all parts.upto r.journal (omega (arith, whole)) in
     record {
@@ -105,22 +97,9 @@ begun_in r caller parts running of whole =
           ∙ of.parts_of.live f;
       each = segments_in r parts.upto (documents_from 1 (take parts.upto r.journal))
           parts.generations (ap (documents_from 1) (sym all));
-      drawn = subst (AllByRecursion (λ g. g < next_generation r)) (sym of.generations)
-          (filter_all (λ g. g < next_generation r)
-          (λ g. not (is_among g (events.replaced r.history))) (drawn r) running.drawn_before);
     }
 
 -- ---- begun, built, ended
-
-pub stays_begin : (caller : ℕ) (r : Record) → Stays r (after_begin caller r)
-stays_begin caller r =
-    let all_frozen = after_freeze caller r in
-    let v = begun_by caller r in
-    stays_both r all_frozen (after_begin caller r) (stays_freeze caller r)
-    (stays_view_begin caller v.view v.upto v.generations all_frozen)
-
-pub stays_end : (caller view : ℕ) (r : Record) → Stays r (after_end caller view r)
-stays_end caller view r = stays_view_end caller view (released_by_end caller view r) r
 
 -- the view that is built of the parts
 view_is : (parts : PlainParts) (v : PlainView) → IsViewOf parts v
@@ -145,51 +124,49 @@ view_is parts v is =
       generations = gs;
     }) is.generations
 
-pub begun_shown : (old new : Record) (parts : PlainParts) (v : PlainView) → IsRunning old
+pub begun_shown : (old new : Record) (parts : PlainParts) (v : PlainView) → IsLegal new
     → new ≡ after_begin CALLER old → view_of CALLER parts ≡ begun_by CALLER old → AreOf new parts
     → IsViewOf parts v → Represents new.journal v
     → (view_in v ≡ begun_by CALLER old) × IsShown new v
-begun_shown old new parts v running is begun of view represents =
+begun_shown old new parts v legal is begun of view represents =
     let same : view_in v ≡ view_of CALLER parts = view_is parts v view in
-    let running' : IsRunning new =
-    subst IsRunning (sym is) ((stays_begin CALLER old).running running) in
-    let journal : new.journal ≡ old.journal =
-    ap (λ (r : Record). r.journal) is ∙ (gains-begin CALLER old).journal
-    ∙ append-nil old.journal in
+    let count : accepted (after_freeze CALLER old) ≡ accepted new =
+    (let before = (gains-freeze CALLER old).counted in
+    let after = (gains-begin CALLER old).counted in
+    let now = ap accepted is in omega (arith, before, after, now)) in
     let upto : parts.upto ≡ length new.journal =
-    ap (λ (x : View). x.upto) begun ∙ (gains-freeze CALLER old).counted
-    ∙ add-zero (accepted old) ∙ running.counted
-    ∙ ap (λ (ops : List PlainOp). length ops) (sym journal) in (
+    ap (λ (x : View). x.upto) begun ∙ count ∙ sym legal.numbered in
+    let are_current : v.generations ≡ current new = view.generations ∙ of.generations in (
       same ∙ begun,
       record {
-        is_in = subst (IsViewIn new) (sym same) (begun_in new CALLER parts running' of upto);
+        is_in = subst (IsViewIn new) (sym same) (begun_in new CALLER parts of upto);
         sees = built_sees new CALLER parts v of view represents
             ∙ ap (segments_seen new) (sym same);
+        drawn = subst (λ (gs : List ℕ). WereDrawn new gs) (sym are_current) (current_were new);
       },
     )
 
 -- a view that began has ended again
-pub passed : (old : Record) (number : ℕ) (new : Record) → (begun_by CALLER old).view ≡ number
+pub passed : (old : Record) (number : ℕ) (new : Record) → IsLegal new
+    → (begun_by CALLER old).view ≡ number
     → new ≡ after_end CALLER number (after_begin CALLER old) → Passes old new
-passed old number new same is =
-    let v = begun_by CALLER old in
-    subst (Passes old)
-    (ap (λ (n : ℕ). after_end CALLER n (after_begin CALLER old)) same ∙ sym is)
-    (record {
-      stays = stays_both old (after_begin CALLER old) _ (stays_begin CALLER old)
-          (stays_end CALLER v.view (after_begin CALLER old));
-      open_stay = λ kept views. passed_holds CALLER old kept views;
-    })
+passed old number new legal same is =
+    let n = (begun_by CALLER old).view in
+    let mid = after_begin CALLER old in
+    gained_passes [] old new (after_end CALLER n mid) legal
+    (is ∙ ap (λ (k : ℕ). after_end CALLER k mid) (sym same))
+    (gains-then [] old mid (after_end CALLER n mid) (gains-begin CALLER old)
+    (gains-end CALLER n mid)) (λ kept views. passed_holds CALLER old kept views)
 
 -- a view was begun and built
-pub begins_some : (old mid new : Record) (parts : PlainParts) (v : PlainView) → IsRunning old
+pub begins_some : (old mid new : Record) (parts : PlainParts) (v : PlainView) → IsLegal mid
     → length (open_views old) < MOST_OPEN_VIEWS → mid ≡ after_begin CALLER old → new ≡ mid
     → view_of CALLER parts ≡ begun_by CALLER old → AreOf mid parts
     → Contains (open_views mid) (view_of CALLER parts) → IsViewOf parts v
     → ((journal : List PlainOp) → AreParts journal parts → Represents journal v)
     → Begins old new (Some v)
-begins_some old mid new parts v running room is same begun of there view represents =
-    let shown = begun_shown old mid parts v running is begun of view
+begins_some old mid new parts v legal room is same begun of there view represents =
+    let shown = begun_shown old mid parts v legal is begun of view
     (represents mid.journal of.parts_of) in
     let here : view_in v ≡ view_of CALLER parts = view_is parts v view in (
       room,
@@ -201,9 +178,9 @@ begins_some old mid new parts v running room is same begun of there view represe
     )
 
 -- or has ended again
-pub begins_failed : (old mid new : Record) (parts : PlainParts) → mid ≡ after_begin CALLER old
-    → view_of CALLER parts ≡ begun_by CALLER old → new ≡ after_end CALLER parts.number mid
-    → Passes old new
-begins_failed old mid new parts is begun ends =
-    passed old parts.number new (sym (ap (λ (v : View). v.view) begun))
+pub begins_failed : (old mid new : Record) (parts : PlainParts) → IsLegal new
+    → mid ≡ after_begin CALLER old → view_of CALLER parts ≡ begun_by CALLER old
+    → new ≡ after_end CALLER parts.number mid → Passes old new
+begins_failed old mid new parts legal is begun ends =
+    passed old parts.number new legal (sym (ap (λ (v : View). v.view) begun))
     (ends ∙ ap (after_end CALLER parts.number) is)

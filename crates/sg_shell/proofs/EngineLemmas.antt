@@ -15,18 +15,20 @@ use Rattle.collector.specs.Hits.{rows_of}
 use Rattle.index_core.specs.declared.limits.TheConstants.{MOST_OPEN_VIEWS}
 use Rattle.index_core.specs.Histories.{Record, View}
 use Rattle.index_core.specs.Records.{open_views}
+use Rattle.index_core.specs.LegalHistories.{IsLegal}
 use Rattle.index_core.specs.Calls.{after_begin, after_end, begun_by}
 use Rattle.sg_view.specs.Viewing.{PlainView, viewed_segments, Represents}
 use Rattle.sg_view.specs.Rows.{HasHit, IsNumbered, hit_key}
-use Rattle.wire_replies.specs.Replies.{Reply, rows, opened, failed}
+use Rattle.index_shared.specs.Offers.{after_flush, built_by_flush}
+use Rattle.wire_replies.specs.Replies.{Reply, rows, opened, built, failed}
 use Rattle.wire_replies.specs.Rows.{Row}
 use Rattle.wire_replies.specs.declared.error_kind.ErrorKind.TheVariants.{Views as NoRoom}
-use Rattle.sg_shell.specs.Workers.{Open, Worker, with_seen, Step, says, reports, after_flush}
-use Rattle.sg_shell.specs.Workers.{named, begin_step, query_step, open_step}
+use Rattle.sg_shell.specs.Workers.{Open, Worker, with_seen, Step, says, reports}
+use Rattle.sg_shell.specs.Workers.{named, begin_step, query_step, open_step, flush_step}
 use Rattle.sg_shell.specs.Rows.{printed_rows}
 use Rattle.sg_shell.specs.Runs.{segment_seen, IsReportReply}
 use Rattle.sg_shell.specs.Viewed.{IsViewIn}
-use Rattle.sg_shell.specs.Working.{IsRunning, Stays, Passes, IsShown, IsWorking, view_in, hit_row}
+use Rattle.sg_shell.specs.Working.{Passes, IsShown, IsWorking, view_in, hit_row}
 use Rattle.std.proofs.Common.{IfSome}
 use Rattle.wire_json.specs.Commands.{Command, refused}
 use Rattle.wire_json.specs.CommandForms.{kind_of, Refuses}
@@ -35,10 +37,11 @@ use Rattle.wire_replies.specs.declared.error_kind.ErrorKind.{ErrorKind}
 use Rattle.sg_shell.specs.Workers.{step}
 use Rattle.sg_shell.specs.Working.{Begins}
 use Rattle.sg_shell.specs.Working.{Answers, NamedBuilt}
-use Rattle.sg_shell.specs.declared.engine.TheConstants.{CALLER}
+use Rattle.index_single.specs.declared.caller.TheConstants.{CALLER}
 use Rattle.sg_shell.proofs.BeginLemmas.{passed}
 use Rattle.sg_shell.proofs.PassLemmas.{passes_both}
 use Rattle.sg_shell.proofs.HoldingLemmas.{begin_cases}
+use Rattle.sg_shell.proofs.LaterLemmas.{all_shown}
 use Rattle.sg_shell.proofs.PrintLemmas.{rows_are}
 use Rattle.sg_shell.proofs.ReportLemmas.{meets_seen}
 
@@ -153,12 +156,12 @@ query_rows line q w mid new final v reply flushed room begins view shown ends re
       after_is = ap (λ (r : Record). with_seen r w) ended;
     }))
 
-pub query_passes : (old mid new final : Record) (v : PlainView) → Passes old mid
-    → new ≡ after_begin CALLER mid → view_in v ≡ begun_by CALLER mid
+pub query_passes : (old mid new final : Record) (v : PlainView) → IsLegal final
+    → Passes old mid → new ≡ after_begin CALLER mid → view_in v ≡ begun_by CALLER mid
     → final ≡ after_end CALLER v.number new → Passes old final
-query_passes old mid new final v before begins view ends =
+query_passes old mid new final v legal before begins view ends =
     passes_both old mid final before
-    (passed mid v.number final (ap (λ (x : View). x.view) (sym view))
+    (passed mid v.number final legal (ap (λ (x : View). x.view) (sym view))
     (ends ∙ ap (after_end CALLER v.number) begins))
 
 -- ---- a view under a name
@@ -201,25 +204,24 @@ open_begun line upto name w mid new v flushed room begins view same =
 
 -- ---- the worker afterwards
 
-pub shown_stays : (r s : Record) (os : List NamedBuilt) → IsRunning r → Stays r s
-    → AllByRecursion (λ o. IsShown r o.view) os → AllByRecursion (λ o. IsShown s o.view) os
-shown_stays r s [] is stays all = tt
-shown_stays r s (o ∷ os) is stays all =
-    let keeps = stays.views is (view_in o.view) all.0.is_in in (
-      record { is_in = keeps.is_in; sees = all.0.sees ∙ sym keeps.sees },
-      shown_stays r s os is stays all.1,
-    )
-
 pub passes_working : (r s : Record) (os : List NamedBuilt) → Passes r s → IsWorking r os
     → IsWorking s os
 passes_working r s os passes is = record {
+  legal = passes.legal;
   holds = record {
     views = passes.open_stay _ is.holds.views;
     apart = is.holds.apart;
     few = is.holds.few;
   };
-  running = passes.stays.running is.running;
-  shown = shown_stays r s os is.running passes.stays is.shown;
+  shown = all_shown r s is.legal passes.legal passes.later os is.shown;
+}
+
+-- the empty record is legal
+legal_empty : IsLegal Rattle.index_core.specs.Calls.empty_record
+legal_empty = record {
+  numbered = refl;
+  events = λ k event got. (cc);
+  not_full = omega arith;
 }
 
 -- before any line
@@ -228,8 +230,8 @@ pub working_new : (r : Record) (os : List NamedBuilt)
 working_new r os is none =
     subst (λ (x : Record). IsWorking x os) (sym is)
     (subst (IsWorking Rattle.index_core.specs.Calls.empty_record) (sym none) (record {
+      legal = legal_empty;
       holds = Rattle.sg_shell.proofs.HoldingLemmas.holds_untouched;
-      running = record { counted = refl; known = tt; frozen_before = tt; drawn_before = tt };
       shown = tt;
     }))
 
@@ -243,10 +245,21 @@ query_begins line q w old mid new final v reply seen flushed begins ends report 
     query_rows line q w mid new final v reply (flushed ∙ ap (after_flush CALLER) (sym seen))
     begins.0 begins.1 begins.2 begins.3 ends (report new begins.3) few
 
-pub query_ends : (old mid new final : Record) (v : PlainView) → Passes old mid
+pub query_ends : (old mid new final : Record) (v : PlainView) → IsLegal final → Passes old mid
     → Begins mid new (Some v) → final ≡ after_end CALLER v.number new → Passes old final
-query_ends old mid new final v before begins ends =
-    query_passes old mid new final v before begins.1 begins.2 ends
+query_ends old mid new final v legal before begins ends =
+    query_passes old mid new final v legal before begins.1 begins.2 ends
+
+-- the index is brought up to date
+pub flush_answers : (line count : ℕ) (w : Worker) (old new : Record) → w.seen ≡ old
+    → count ≡ built_by_flush CALLER old → new ≡ after_flush CALLER old
+    → Answers line (flush_step CALLER line w) (built line count) (with_seen new w)
+flush_answers line count w old new seen same flushed =
+    answers_says line (flush_step CALLER line w) (built line count) (with_seen new w)
+    (ap (λ (r : Record).
+    says (built line (built_by_flush CALLER r)) (with_seen (after_flush CALLER r) w)) seen
+    ∙ ap (λ (n : ℕ). says (built line n) (with_seen (after_flush CALLER old) w)) (sym same)
+    ∙ ap (λ (r : Record). says (built line count) (with_seen r w)) (sym flushed))
 
 pub query_is_full : (line : ℕ) (q : PlainQuery) (w : Worker) (old mid new : Record) → w.seen ≡ old
     → mid ≡ after_flush CALLER old → Begins mid new None

@@ -14,6 +14,7 @@ use Rattle.index_core.specs.Histories.{Record, View}
 use Rattle.index_core.specs.Records.{accepted}
 use Rattle.index_core.specs.Calls.{after_accept, after_begin, after_end, begun_by}
 use Rattle.index_core.specs.MergeCalls.{merge_begun_by}
+use Rattle.index_shared.specs.Offers.{after_flush, built_by_flush}
 use Rattle.wire_json.specs.Commands.{Command, blank, accepts, suggests, opens, closes, flushes}
 use Rattle.wire_json.specs.Commands.{merges, barrier, refused}
 use Rattle.wire_json.specs.CommandForms.{IsRead}
@@ -24,8 +25,8 @@ use Rattle.wire_replies.specs.declared.error_kind.ErrorKind.TheVariants.{Full, V
 use Rattle.wire_replies.specs.declared.error_kind.ErrorKind.TheVariants.{Views as NoRoom}
 use Rattle.sg_shell.specs.Rows.{printed_rows}
 use Rattle.sg_shell.specs.Transcripts.{Line, Said}
-use Rattle.sg_shell.specs.Workers.{Open, Worker, with_seen, Step, says, reports, after_flush}
-use Rattle.sg_shell.specs.Workers.{built_by_flush, merged_count, after_merge}
+use Rattle.sg_shell.specs.Workers.{Open, Worker, with_seen, Step, says, reports, merged_count}
+use Rattle.sg_shell.specs.Workers.{after_merge}
 use Rattle.sg_shell.specs.Workers.{named, without_name, accept_step, query_step, named_step}
 use Rattle.sg_shell.specs.Workers.{open_step, close_step, step}
 use Rattle.sg_shell.specs.Runs.{IsReportReply, Adds}

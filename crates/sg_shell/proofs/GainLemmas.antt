@@ -1,6 +1,7 @@
--- What the calls of the index add to a journal.
+-- What the calls of the index add to a record.
 use Rattle.std.proofs.Common.{◌≡◌, ◌+◌, ℕ, Bool, true, false, cond, nat_eq, List, [], ◌∷◌, ◌++◌}
-use Rattle.std.proofs.Common.{length, refl, sym, ap, ◌∙◌, arith, append-nil, length-append, add-zero}
+use Rattle.std.proofs.Common.{length, refl, sym, ap, ◌∙◌, arith, append-nil, append_assoc}
+use Rattle.std.proofs.Common.{length-append, add-zero}
 use Rattle.std.specs.Prelude.{fold}
 use Rattle.std.specs.List.{filter_map}
 use Rattle.std.proofs.lemmas.List.Elements.{filter_map-append}
@@ -12,7 +13,7 @@ use Rattle.index_core.specs.Records.{with_event, accepted, frozen, buffered, cur
 use Rattle.index_core.specs.Calls.{with_operation, after_freeze, after_accept, after_begin}
 use Rattle.index_core.specs.Calls.{after_end}
 use Rattle.index_core.specs.CurrentPieces.{is_unbuilt, after_built, is_behind}
-use Rattle.sg_shell.specs.Workers.{refreshed, after_flush}
+use Rattle.index_shared.specs.Offers.{refreshed, after_flush}
 
 -- one operation for each accept
 abbrev pub IsCounted : Record → Type 0
@@ -20,6 +21,8 @@ IsCounted r = accepted r ≡ length r.journal
 
 -- a record that has gained these operations
 pub record Gains (now : List PlainOp) (old new : Record) : Type 0 where
+  pub events : List HistoryEvent
+  pub history : new.history ≡ old.history ++ events
   pub journal : new.journal ≡ old.journal ++ now
   pub counted : accepted new ≡ accepted old + length now
 
@@ -31,6 +34,8 @@ accepted-event r event =
 
 pub gains-none : (r : Record) → Gains [] r r
 gains-none r = record {
+  events = [];
+  history = sym (append-nil r.history);
   journal = sym (append-nil r.journal);
   counted =
       sym (add-zero (accepted r));
@@ -39,6 +44,8 @@ gains-none r = record {
 pub gains-event : (r : Record) (event : HistoryEvent) → filter_map accepted_number (event ∷ []) ≡ []
     → Gains [] r (with_event r event)
 gains-event r event none = record {
+  events = event ∷ [];
+  history = refl;
   journal = sym (append-nil r.journal);
   counted = accepted-event r event
       ∙ ap (λ (ns : List ℕ). accepted r + length ns) none;
@@ -47,6 +54,9 @@ gains-event r event none = record {
 pub gains-then : (now : List PlainOp) (old mid new : Record) → Gains now old mid → Gains [] mid new
     → Gains now old new
 gains-then now old mid new first later = record {
+  events = first.events ++ later.events;
+  history = later.history ∙ ap (λ (h : List HistoryEvent). h ++ later.events) first.history
+      ∙ append_assoc old.history first.events later.events;
   journal = later.journal ∙ (append-nil mid.journal ∙ first.journal);
   counted = later.counted ∙ (add-zero (accepted mid) ∙ first.counted);
 }
@@ -66,9 +76,10 @@ gains-accept caller r operation =
     let added = with_operation caller operation r in
     let one : Gains (operation ∷ []) r added =
     record {
+      events = accept caller (accepted r + 1) ∷ [];
+      history = refl;
       journal = refl;
-      counted =
-          accepted-event r (accept caller (accepted r + 1));
+      counted = accepted-event r (accept caller (accepted r + 1));
     } in
     gains-if (nat_eq (buffered added) BATCH_OPERATIONS) (operation ∷ []) r _ added
     (gains-then (operation ∷ []) r added _ one (gains-freeze caller added)) one

@@ -12,20 +12,22 @@ use Rattle.index_core.specs.Histories.{Record, View, begun_views}
 use Rattle.index_core.specs.Records.{accepted, open_views}
 use Rattle.index_core.specs.Calls.{after_accept, after_freeze, after_begin, after_end, begun_by}
 use Rattle.index_core.specs.Calls.{released_by_end}
+use Rattle.index_shared.specs.Offers.{after_flush}
+use Rattle.index_single.proofs.ViewNumberLemmas.{without_newest}
 use Rattle.wire_json.specs.Commands.{Command, accepts, suggests, opens, closes, flushes}
 use Rattle.wire_json.specs.Commands.{merges, refused}
 use Rattle.wire_replies.specs.Replies.{numbered, failed}
 use Rattle.wire_replies.specs.declared.error_kind.ErrorKind.TheVariants.{Full, Views as NoRoom}
 use Rattle.sg_shell.specs.Transcripts.{Line, Said}
 use Rattle.sg_shell.specs.Workers.{Open, Worker, untouched, with_seen, Step, says}
-use Rattle.sg_shell.specs.Workers.{after_flush, after_merge, named, accept_step, begin_step}
+use Rattle.sg_shell.specs.Workers.{after_merge, named, accept_step, begin_step}
 use Rattle.sg_shell.specs.Workers.{query_step, named_step, open_step, close_step, step}
 use Rattle.sg_shell.specs.Runs.{Ran}
 use Rattle.sg_shell.specs.RunLaws.{NamedViewsAreOpen}
 use Rattle.sg_shell.specs.Working.{Quiet, Views, views_of, Holds}
 use Rattle.sg_shell.proofs.PlanLemmas.{quiet_merge}
 use Rattle.sg_shell.proofs.QuietLemmas.{quiet_freeze, quiet_accept, quiet_flush}
-use Rattle.sg_shell.proofs.OpenLemmas.{quiet_views, begin_views, end_views, without_newest}
+use Rattle.sg_shell.proofs.OpenLemmas.{quiet_views, begin_views, end_views}
 use Rattle.sg_shell.proofs.OpenLemmas.{found_view, close_one, apart_without}
 use Rattle.sg_shell.proofs.OpenLemmas.{apart_more, newest}
 

@@ -12,8 +12,7 @@ pub mod GainLemmas
 pub mod NamingLemmas
 pub mod FitLemmas
 pub mod RunSessionLemmas
-pub mod DocumentLemmas
-pub mod StayLemmas
+pub mod LaterLemmas
 pub mod PassLemmas
 pub mod BeginLemmas
 pub mod PrintLemmas
@@ -24,10 +23,6 @@ pub mod ReadLemmas
 pub mod EndLemmas
 pub mod NamedLemmas
 pub mod AcceptLemmas
-pub mod UnchangedLemmas
-pub mod RefreshLemmas
-pub mod ReadyLemmas
-pub mod CountLemmas
 pub mod PlanLemmas
 pub mod MergeLemmas
 pub mod OpenMergeLemmas

@@ -9,27 +9,30 @@ use Rattle.sg_answers.specs.declared.limits.TheConstants.{MOST_QUEUED}
 use Rattle.index_core.specs.declared.limits.TheConstants.{MOST_OPEN_VIEWS}
 use Rattle.index_core.specs.Histories.{Record, View}
 use Rattle.index_core.specs.Records.{open_views}
+use Rattle.index_core.specs.LegalHistories.{IsLegal}
 use Rattle.index_core.specs.Calls.{after_begin, after_end, begun_by, released_by_end}
 use Rattle.sg_view.specs.Viewing.{PlainView}
+use Rattle.index_shared.specs.Offers.{after_flush}
 use Rattle.wire_json.specs.Commands.{opens, closes}
 use Rattle.wire_replies.specs.Replies.{Reply, opened, closed, failed}
 use Rattle.wire_replies.specs.declared.error_kind.ErrorKind.TheVariants.{View as NoView}
 use Rattle.wire_replies.specs.declared.error_kind.ErrorKind.TheVariants.{Views as NoRoom}
-use Rattle.sg_shell.specs.Workers.{Open, Worker, with_seen, Step, says, reports, after_flush, named}
+use Rattle.sg_shell.specs.Workers.{Open, Worker, with_seen, Step, says, reports, named}
 use Rattle.sg_shell.specs.Workers.{without_name, named_step, open_step, close_step}
 use Rattle.sg_shell.specs.Runs.{IsReportReply}
 use Rattle.sg_shell.specs.Working.{NamedBuilt, open_of, worker_of, view_in, views_of, Answers, Views}
-use Rattle.sg_shell.specs.Working.{Holds, IsRunning, IsShown, IsWorking, Passes, Begins}
-use Rattle.sg_shell.specs.declared.engine.TheConstants.{CALLER}
-use Rattle.sg_shell.proofs.BeginLemmas.{stays_begin, stays_end}
+use Rattle.sg_shell.specs.Working.{Holds, IsShown, IsWorking, Passes, Begins}
+use Rattle.index_single.specs.declared.caller.TheConstants.{CALLER}
 use Rattle.sg_shell.proofs.CloseLemmas.{has_name, IsFoundAt, named_none, named_some, all_at, all_more}
 use Rattle.sg_shell.proofs.CloseLemmas.{all_removed, removed, is_open, without_last}
 use Rattle.sg_shell.proofs.CloseLemmas.{apart_without_last, last_at}
-use Rattle.sg_shell.proofs.EngineLemmas.{answers_says, shown_stays, open_begun, open_full}
+use Rattle.sg_shell.proofs.EngineLemmas.{answers_says, open_begun, open_full}
 use Rattle.sg_shell.proofs.EngineLemmas.{passes_working}
+use Rattle.sg_shell.proofs.GainLemmas.{gains-begin, gains-end}
 use Rattle.sg_shell.proofs.HoldingLemmas.{holds_step}
+use Rattle.sg_shell.proofs.LaterLemmas.{later_both, all_shown}
 use Rattle.sg_shell.proofs.OpenLemmas.{end_views}
-use Rattle.sg_shell.proofs.StayLemmas.{stays_both}
+use Rattle.sg_shell.proofs.PassLemmas.{extends_gained}
 
 -- ---- found
 
@@ -87,10 +90,10 @@ pub record Closes (line : ℕ) (name : List ℕ) (old new : Record) (os os' : Li
   pub working : IsWorking new os'
 
 pub close_found : (line : ℕ) (name : List ℕ) (old new : Record) (os os' : List NamedBuilt) (i : ℕ)
-    (x : NamedBuilt) → IsWorking old os → position_from (has_name name) 0 os ≡ Some i
+    (x : NamedBuilt) → IsLegal new → IsWorking old os → position_from (has_name name) 0 os ≡ Some i
     → x ≡ slice_index_or os i x → os' ≡ remove os i → new ≡ after_end CALLER x.view.number old
     → Closes line name old new os os'
-close_found line name old new os os' i x working is here taken ends =
+close_found line name old new os os' i x legal working is here taken ends =
     let f = found_at name os i is in
     let w = worker_of old os in
     let found : named name (map open_of os) ≡ Some (open_of x) =
@@ -106,18 +109,18 @@ close_found line name old new os os' i x working is here taken ends =
       kept = without_name name (map open_of os);
     })) (sym ends)
     ∙ ap (λ (ks : List Open). says (closed line name) (record { seen = new; kept = ks })) kept in
-    let stays = stays_end CALLER x.view.number old in
+    let later = extends_gained [] old new (after_end CALLER x.view.number old) ends
+    (gains-end CALLER x.view.number old) in
     record {
       answers = answers_says line _ (closed line name) (worker_of new os') after;
       working = record {
+        legal = legal;
         holds = subst Holds (ap (λ (s : Step). s.after) after)
             (holds_step CALLER line w working.holds (closes 0 name));
-        running = subst IsRunning (sym ends) (stays.running working.running);
         shown = subst (λ (zs : List NamedBuilt). AllByRecursion (λ o. IsShown new o.view) zs)
             (sym taken)
             (all_removed (λ o. IsShown new o.view) os i
-            (subst (λ (r : Record). AllByRecursion (λ o. IsShown r o.view) os) (sym ends)
-            (shown_stays old _ os working.running stays working.shown)));
+            (all_shown old new working.legal legal later os working.shown));
       };
     }
 
@@ -155,12 +158,13 @@ pub record Opens (line upto : ℕ) (name : List ℕ) (old new : Record) (os os' 
   pub working : IsWorking new os'
 
 pub open_more : (line upto : ℕ) (name : List ℕ) (old mid new : Record) (os os' : List NamedBuilt)
-    (v : PlainView) → IsWorking old os → position_from (has_name name) 0 os ≡ None
+    (v : PlainView) → IsLegal new → IsWorking old os → position_from (has_name name) 0 os ≡ None
     → mid ≡ after_flush CALLER old → Passes old mid
     → length (open_views mid) < MOST_OPEN_VIEWS → new ≡ after_begin CALLER mid
     → view_in v ≡ begun_by CALLER mid → IsShown new v → upto ≡ v.upto
     → os' ≡ os ++ record { name = name; view = v } ∷ [] → Opens line upto name old new os os'
-open_more line upto name old mid new os os' v working is flushed passes room begins view shown same more =
+open_more line upto name old mid new os os' v legal working is flushed passes room begins view
+    shown same more =
     let w = worker_of old os in
     let one : NamedBuilt = record { name = name; view = v } in
     let kept : map open_of os ++ open_of one ∷ [] ≡ map open_of os' =
@@ -169,18 +173,18 @@ open_more line upto name old mid new os os' v working is flushed passes room beg
     (opened line name upto) (record { seen = new; kept = ks })) kept
     (open_begun line upto name w mid new (view_in v) flushed room begins view same) in
     let all = open_new line name old os (opened line name upto) (worker_of new os') is a in
-    let stays = stays_both old mid (after_begin CALLER mid) passes.stays (stays_begin CALLER mid) in
+    let later = later_both old mid new passes.later
+    (extends_gained [] mid new (after_begin CALLER mid) begins (gains-begin CALLER mid)) in
     record {
       answers = all;
       working = record {
+        legal = legal;
         holds = subst Holds all.after_is
             (holds_step CALLER line w working.holds (opens 0 name));
-        running = subst IsRunning (sym begins) (stays.running working.running);
         shown = subst (λ (zs : List NamedBuilt). AllByRecursion (λ o. IsShown new o.view) zs)
             (sym more)
             (all_more (λ o. IsShown new o.view) os one
-            (subst (λ (r : Record). AllByRecursion (λ o. IsShown r o.view) os) (sym begins)
-            (shown_stays old _ os working.running stays working.shown)) shown);
+            (all_shown old new working.legal legal later os working.shown) shown);
       };
     }
 
@@ -193,14 +197,15 @@ pub record OpensAs (line : ℕ) (name : List ℕ) (reply : Reply) (old new : Rec
   pub working : IsWorking new os'
 
 pub open_begins : (line upto : ℕ) (name shown : List ℕ) (old mid new : Record)
-    (os rs os' : List NamedBuilt) (v : PlainView) → IsWorking old os
+    (os rs os' : List NamedBuilt) (v : PlainView) → IsLegal new → IsWorking old os
     → position_from (has_name name) 0 os ≡ None → mid ≡ after_flush CALLER old → Passes old mid
     → Begins mid new (Some v) → upto ≡ v.upto → shown ≡ name → rs ≡ os
     → os' ≡ rs ++ record { name = name; view = v } ∷ []
     → OpensAs line name (opened line shown upto) old new os os'
-open_begins line upto name shown old mid new os rs os' v working is flushed passes begins same text kept more =
-    let o = open_more line upto name old mid new os os' v working is flushed passes begins.0
-    begins.1 begins.2 begins.3 same
+open_begins line upto name shown old mid new os rs os' v legal working is flushed passes begins
+    same text kept more =
+    let o = open_more line upto name old mid new os os' v legal working is flushed passes
+    begins.0 begins.1 begins.2 begins.3 same
     (more ∙ ap (λ (zs : List NamedBuilt). zs ++ record { name = name; view = v } ∷ []) kept) in
     record {
       answers = subst (λ (x : List ℕ). Answers line

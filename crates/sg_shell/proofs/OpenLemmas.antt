@@ -112,16 +112,6 @@ end_views r kept caller k gone known views =
           (fewer_views (length (begun_views h)) k kept views.below);
     }
 
--- the newest is taken away again
-pub without_newest : (n : ℕ) (v : View) (kept : List View) → AllByRecursion (λ w. w.view ≤ n) kept
-    → n < v.view → without v.view (kept ++ v ∷ []) ≡ kept
-without_newest n v [] all h =
-    let same : nat_eq v.view v.view ≡ true = grind (arith, nat_tests) in rw same refl
-without_newest n v (w ∷ ws) all h =
-    let less : w.view ≤ n = all.0 in
-    let other : nat_eq w.view v.view ≡ false = grind (arith, nat_tests, less, h) in
-    rw other (ap (λ (vs : List View). w ∷ vs) (without_newest n v ws all.1 h))
-
 -- ---- named views
 
 pub found_one : (P : Open → Type 0) (name : List ℕ) (kept : List Open) (o : Open)

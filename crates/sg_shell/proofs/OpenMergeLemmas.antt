@@ -8,25 +8,26 @@ use Rattle.std.proofs.lemmas.List.Folds.{list_any-append}
 use Rattle.sg_context.specs.Queries.{PlainQuery}
 use Rattle.sg_paths.specs.Operations.{PlainOp}
 use Rattle.index_core.specs.declared.limits.TheConstants.{MOST_OPERATIONS, BATCH_OPERATIONS}
-use Rattle.index_core.specs.Histories.{HistoryEvent, accept, built, live_docs_updated, merge_begin}
+use Rattle.index_core.specs.Histories.{accept, built, live_docs_updated, merge_begin}
 use Rattle.index_core.specs.Histories.{Record, Merge, is_among, closed_merge}
 use Rattle.index_core.specs.Records.{with_event, accepted, frozen, buffered, current, begun_merges}
 use Rattle.index_core.specs.Records.{open_merges, next_merge}
 use Rattle.index_core.specs.Calls.{with_operation, after_accept, after_freeze, after_begin, after_end}
 use Rattle.index_core.specs.Calls.{begun_by}
-use Rattle.index_core.specs.CurrentPieces.{is_unbuilt, after_built, is_behind, after_lived}
+use Rattle.index_core.specs.CurrentPieces.{is_unbuilt, after_built, is_behind}
 use Rattle.index_core.specs.Merges.{merge_plan}
-use Rattle.index_core.specs.MergeCalls.{next_merge_by, after_begin_of, after_begin_merge}
+use Rattle.index_core.specs.MergeCalls.{next_merge_by, after_begin_of}
 use Rattle.index_core.specs.MergeCalls.{ending_merge, released_by_merge, after_commit}
 use Rattle.index_core.proofs.HistoryLemmas.{skips}
 use Rattle.index_core.proofs.EventLemmas.{frozen_after, merges-more, merges-skip, open_merges-skip}
 use Rattle.index_core.proofs.GenerationLemmas.{among_itself}
+use Rattle.index_shared.specs.Offers.{refreshed, after_flush}
 use Rattle.wire_json.specs.Commands.{Command, accepts, suggests, opens, closes, flushes, merges}
 use Rattle.wire_replies.specs.Replies.{numbered, failed}
 use Rattle.wire_replies.specs.declared.error_kind.ErrorKind.TheVariants.{Full}
 use Rattle.sg_shell.specs.Transcripts.{Line, Said}
-use Rattle.sg_shell.specs.Workers.{Open, Worker, untouched, with_seen, Step, says, refreshed}
-use Rattle.sg_shell.specs.Workers.{after_flush, after_merge_of, after_merge, named, accept_step}
+use Rattle.sg_shell.specs.Workers.{Open, Worker, untouched, with_seen, Step, says}
+use Rattle.sg_shell.specs.Workers.{after_merge_of, after_merge, named, accept_step}
 use Rattle.sg_shell.specs.Workers.{query_step, named_step, open_step, close_step, step}
 use Rattle.sg_shell.specs.Runs.{Ran}
 use Rattle.sg_shell.specs.RunLaws.{NoMergeStaysOpen}

@@ -1,6 +1,6 @@
 -- What a merge does to the views and the journal of a worker, and how many segments it takes.
-use Rattle.std.proofs.Common.{◌≡◌, ◌≤◌, ℕ, inl, inr, ◌⊎◌, List, [], length, map, Option, Some, None}
-use Rattle.std.proofs.Common.{refl, ap, ◌∙◌, arith}
+use Rattle.std.proofs.Common.{◌≤◌, ℕ, inl, inr, ◌⊎◌, List, [], length, map, Option, Some, None}
+use Rattle.std.proofs.Common.{refl, ap, arith}
 use Rattle.std.specs.Prelude.{filter, option_map}
 use Rattle.std.specs.Option.{IfSome}
 use Rattle.std.proofs.lemmas.List.{length-map}
@@ -9,7 +9,7 @@ use Rattle.merge_plan.specs.Merges.{planned}
 use Rattle.merge_plan.specs.PlanLaws.{AreTen, IsOneDeleted}
 use Rattle.merge_plan.proofs.PlanLemmas.{planned-kinds}
 use Rattle.index_core.specs.Histories.{merge_begin, Record, Merge}
-use Rattle.index_core.specs.Records.{with_event, current, next_merge}
+use Rattle.index_core.specs.Records.{current, next_merge}
 use Rattle.index_core.specs.Generations.{is_built}
 use Rattle.index_core.specs.Merges.{size_of, merge_plan}
 use Rattle.index_core.specs.MergeCalls.{next_merge_by, merge_begun_by, after_begin_of}
@@ -41,7 +41,7 @@ few_merged caller r =
     by_planned None kind = omega arith
     by_planned (Some chosen) kind = by_kind chosen kind
 
-gains-begin_merge : (caller : ℕ) (r : Record) → Gains [] r (after_begin_merge caller r)
+pub gains-begin_merge : (caller : ℕ) (r : Record) → Gains [] r (after_begin_merge caller r)
 gains-begin_merge caller r = by_plan (merge_plan r)
   where
     by_plan : (o : Option (List ℕ)) → Gains [] r (after_begin_of caller r o)
@@ -58,7 +58,7 @@ gains-merge caller r = by_merge (merge_begun_by caller r)
         gains-then [] r mid (after_commit caller m mid) (gains-begin_merge caller r)
         (gains-event mid (ending_merge caller m mid (released_by_merge caller m mid)) refl)
 
-quiet_begin_merge : (caller : ℕ) (r : Record) → Quiet r (after_begin_merge caller r)
+pub quiet_begin_merge : (caller : ℕ) (r : Record) → Quiet r (after_begin_merge caller r)
 quiet_begin_merge caller r = by_plan (merge_plan r)
   where
     by_plan : (o : Option (List ℕ)) → Quiet r (after_begin_of caller r o)

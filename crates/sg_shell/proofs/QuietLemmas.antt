@@ -11,7 +11,7 @@ use Rattle.index_core.specs.Records.{current}
 use Rattle.index_core.specs.Calls.{with_operation, after_accept, after_freeze}
 use Rattle.index_core.specs.CurrentPieces.{is_unbuilt, after_built, is_behind, after_lived}
 use Rattle.index_core.proofs.HistoryLemmas.{skips}
-use Rattle.sg_shell.specs.Workers.{refreshed, after_flush}
+use Rattle.index_shared.specs.Offers.{refreshed, after_flush}
 use Rattle.sg_shell.specs.Working.{Quiet}
 
 pub quiet_same : (r : Record) → Quiet r r

@@ -8,6 +8,8 @@ use Rattle.sg_context.specs.Queries.{PlainQuery}
 use Rattle.sg_paths.specs.Operations.{PlainOp}
 use Rattle.index_core.specs.Histories.{Record, View}
 use Rattle.index_core.specs.Calls.{after_begin, begun_by}
+use Rattle.index_shared.specs.Offers.{after_flush}
+use Rattle.index_single.specs.declared.caller.TheConstants.{CALLER}
 use Rattle.wire_json.specs.Commands.{Command, blank, accepts, suggests, opens, closes, flushes}
 use Rattle.wire_json.specs.Commands.{merges, barrier, refused, command_of}
 use Rattle.wire_json.specs.CommandForms.{IsRead}
@@ -18,11 +20,11 @@ use Rattle.sg_shell.specs.Lines.{lines_of}
 use Rattle.sg_shell.specs.Transcripts.{Line, Said, lines_from, input_lines, output}
 use Rattle.sg_shell.specs.Transcripts.{standard}
 use Rattle.sg_shell.specs.Workers.{Open, Worker, untouched, Expected, prints, reports, Step}
-use Rattle.sg_shell.specs.Workers.{after_flush, named, named_step, query_step, step}
+use Rattle.sg_shell.specs.Workers.{named, named_step, query_step, step}
 use Rattle.sg_shell.specs.Runs.{Meets, IsReportReply, Adds, Ran}
 use Rattle.sg_shell.specs.Sessions.{IsAnswered, Session}
 use Rattle.sg_shell.specs.Working.{Answers, MayAnswer, IsViewed, Holds, printed}
-use Rattle.sg_shell.specs.declared.engine.TheConstants.{CALLER, LANES}
+use Rattle.sg_shell.specs.declared.engine.TheConstants.{LANES}
 use Rattle.sg_shell.proofs.GainLemmas.{gains-flush, gains-begin, gains-then}
 use Rattle.sg_shell.proofs.HoldingLemmas.{begin_cases, holds_untouched}
 use Rattle.sg_shell.proofs.ReportLemmas.{answers}

@@ -12,4 +12,3 @@ pub mod Statuses
 pub mod Inputs
 pub mod Outputs
 pub mod Ends
-pub mod Flushing

@@ -11,6 +11,7 @@ use Rattle.sg_paths.specs.Operations.{PlainOp, documents_from}
 use Rattle.sg_paths.specs.LiveDocuments.{live_documents}
 use Rattle.sg_answers.specs.Reports.{IsSoundOver}
 use Rattle.index_core.specs.declared.limits.TheConstants.{MOST_OPERATIONS, MOST_OPEN_VIEWS}
+use Rattle.index_single.specs.declared.caller.TheConstants.{CALLER}
 use Rattle.wire_json.specs.Commands.{Command, blank, accepts, suggests, opens, closes, flushes}
 use Rattle.wire_json.specs.Commands.{merges, refused}
 use Rattle.wire_replies.specs.Replies.{Reply, numbered, rows, opened, closed, built, merged}
@@ -22,7 +23,6 @@ use Rattle.sg_shell.specs.Rows.{printed_rows}
 use Rattle.sg_shell.specs.Transcripts.{Said, input_lines, output}
 use Rattle.sg_shell.specs.Workers.{Worker, untouched}
 use Rattle.sg_shell.specs.Runs.{Ran}
-use Rattle.sg_shell.specs.declared.engine.TheConstants.{CALLER}
 
 -- whether a line has a reply: each that isn't blank
 abbrev pub wants_reply : Command → Bool

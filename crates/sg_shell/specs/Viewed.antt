@@ -1,12 +1,11 @@
 -- What a view of the first operations of a record sees. Source: this project's own.
-use Rattle.std.specs.Prelude.{◌≤◌, ◌<◌, ℕ, List, length, take}
+use Rattle.std.specs.Prelude.{◌≤◌, ℕ, List, length, take}
 use Rattle.std.specs.List.{AllByRecursion}
 use Rattle.sg_paths.specs.Operations.{PlainNumbered, documents_from}
 use Rattle.sg_paths.specs.LiveDocuments.{live_documents}
 use Rattle.sg_answers.specs.Reports.{ViewedSegment, live_in}
 use Rattle.segment.specs.Items.{total_of, HaveSameItems}
 use Rattle.index_core.specs.Histories.{Record, View}
-use Rattle.index_core.specs.Records.{next_generation}
 use Rattle.sg_shell.specs.Runs.{segments_seen}
 
 -- the items of one list are items of the other, at least as often: no sum over it is greater
@@ -25,4 +24,3 @@ pub record IsViewIn (r : Record) (v : View) : Type 0 where
   pub same : HaveSameItems (live_in (segments_seen r v)) (live_documents r.journal v.upto)
   pub each : AllByRecursion (IsSegmentOf (documents_from 1 (take v.upto r.journal)))
       (segments_seen r v)
-  pub drawn : AllByRecursion (λ g. g < next_generation r) v.generations

@@ -1,17 +1,15 @@
 -- One worker alone: what each line makes it print, and its state afterwards, which never depends on
 -- the rows that were printed. Source: this project's own.
 use Rattle.std.specs.Prelude.{ℕ, ◌+◌, not, nat_le, if◌then◌else◌, List, [], ◌∷◌, ◌++◌, length}
-use Rattle.std.specs.Prelude.{filter, fold, find, count_by, Option, Some, None, bytes_eq}
+use Rattle.std.specs.Prelude.{filter, find, Option, Some, None, bytes_eq}
 use Rattle.sg_context.specs.Queries.{PlainQuery}
 use Rattle.sg_paths.specs.Operations.{PlainOp}
 use Rattle.index_core.specs.Histories.{Record, View, Merge}
-use Rattle.index_core.specs.Records.{accepted, frozen, current, open_views}
-use Rattle.index_core.specs.Calls.{empty_record, after_accept, after_freeze, after_begin, after_end}
-use Rattle.index_core.specs.Calls.{begun_by}
+use Rattle.index_core.specs.Records.{accepted, open_views}
+use Rattle.index_core.specs.Calls.{empty_record, after_accept, after_begin, after_end, begun_by}
 use Rattle.index_core.specs.MergeCalls.{merge_begun_by, after_begin_merge, after_commit}
-use Rattle.index_core.specs.Generations.{is_built}
-use Rattle.index_core.specs.CurrentPieces.{after_built, after_lived}
 use Rattle.index_core.specs.declared.limits.TheConstants.{MOST_OPERATIONS, MOST_OPEN_VIEWS}
+use Rattle.index_shared.specs.Offers.{after_flush, built_by_flush}
 use Rattle.wire_json.specs.Commands.{Command, accepts, suggests, opens, closes, flushes, merges}
 use Rattle.wire_json.specs.Commands.{refused}
 use Rattle.wire_replies.specs.Replies.{Reply, numbered, opened, closed, built, merged, failed}
@@ -49,26 +47,6 @@ pub record Step : Type 0 where
 -- a line that prints one reply
 abbrev pub says : Reply → Worker → Step
 says reply after = record { expected = Some (prints reply); after = after }
-
--- ---- flushing
-
--- a generation gets its segment, and its live docs know the deletes of so many operations
-abbrev pub refreshed : ℕ → ℕ → Record → ℕ → Record
-refreshed caller upto r g = after_lived caller g upto (after_built caller g r)
-
--- what is buffered is frozen, and then each current generation is refreshed
-abbrev pub after_flush : ℕ → Record → Record
-after_flush caller r =
-    let all_frozen = after_freeze caller r in
-    fold (refreshed caller (frozen all_frozen)) all_frozen (current all_frozen)
-
--- how many current generations have no segment
-abbrev pub unbuilt_count : Record → ℕ
-unbuilt_count r = count_by (λ g. not (is_built r g)) (current r)
-
--- how many segments a flush builds
-abbrev pub built_by_flush : ℕ → Record → ℕ
-built_by_flush caller r = unbuilt_count (after_freeze caller r)
 
 -- ---- merging
 

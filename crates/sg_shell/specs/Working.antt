@@ -7,10 +7,12 @@ use Rattle.sg_base.specs.declared.hit.Hit.{Hit}
 use Rattle.sg_answers.specs.declared.limits.TheConstants.{MOST_QUEUED}
 use Rattle.index_core.specs.declared.limits.TheConstants.{MOST_OPEN_VIEWS}
 use Rattle.index_core.specs.Histories.{HistoryEvent, Record, View, ended_view}
-use Rattle.index_core.specs.Histories.{begun_views, open_views, frozen_upto}
-use Rattle.index_core.specs.Records.{accepted, drawn, next_generation}
-use Rattle.index_core.specs.EndedMerges.{HasKnownMerges}
+use Rattle.index_core.specs.Histories.{begun_views, open_views}
+use Rattle.index_core.specs.HeldGenerations.{WereDrawn}
+use Rattle.index_core.specs.LegalHistories.{IsLegal}
 use Rattle.index_core.specs.Calls.{after_begin, begun_by}
+use Rattle.index_shared.specs.Sections.{Extends}
+use Rattle.index_single.specs.declared.caller.TheConstants.{CALLER}
 use Rattle.sg_view.specs.Viewing.{LiveSegment, PlainView, viewed_segments}
 use Rattle.sg_view.specs.Rows.{hit_document, hit_suggestion}
 use Rattle.wire_replies.specs.Replies.{Reply, reply_text}
@@ -18,34 +20,13 @@ use Rattle.wire_replies.specs.Rows.{Row}
 use Rattle.sg_shell.specs.Workers.{Open, Worker, Expected, prints, reports, Step}
 use Rattle.sg_shell.specs.Runs.{segments_seen, Meets}
 use Rattle.sg_shell.specs.Viewed.{IsViewIn}
-use Rattle.sg_shell.specs.declared.engine.TheConstants.{CALLER}
 
--- ---- records
+-- ---- open views
 
 -- the same views were begun and ended
 pub record Quiet (r s : Record) : Type 0 where
   pub begun : begun_views s.history ≡ begun_views r.history
   pub ended : filter_map ended_view s.history ≡ filter_map ended_view r.history
-
--- a record whose merges that ended were begun, whose freezes are of accepted operations, and which
--- drew one generation after another
-pub record IsRunning (r : Record) : Type 0 where
-  pub counted : accepted r ≡ length r.journal
-  pub known : HasKnownMerges r
-  pub frozen_before : AllByRecursion (λ n. n ≤ length r.journal) (filter_map frozen_upto r.history)
-  pub drawn_before : AllByRecursion (λ g. g < next_generation r) (drawn r)
-
--- a view of one record is one of the other, and sees the same
-pub record Keeps (r s : Record) (v : View) : Type 0 where
-  pub is_in : IsViewIn s v
-  pub sees : segments_seen s v ≡ segments_seen r v
-
--- what has become of a record: all its views stay
-pub record Stays (r s : Record) : Type 0 where
-  pub running : IsRunning r → IsRunning s
-  pub views : IsRunning r → (v : View) → IsViewIn r v → Keeps r s v
-
--- ---- open views
 
 -- the open views of a history are these, and numbers count up
 pub record Views (h : List HistoryEvent) (kept : List View) : Type 0 where
@@ -96,15 +77,16 @@ open_of o = record { name = o.name; view = view_in o.view }
 abbrev pub worker_of : Record → List NamedBuilt → Worker
 worker_of r opened = record { seen = r; kept = map open_of opened }
 
--- a built view sees what the record says
+-- a built view sees what the record says, of generations that were drawn
 pub record IsShown (r : Record) (v : PlainView) : Type 0 where
   pub is_in : IsViewIn r (view_in v)
   pub sees : viewed_segments v ≡ segments_seen r (view_in v)
+  pub drawn : WereDrawn r v.generations
 
--- the named views are the open ones, and each sees what the record says
+-- the record is legal, the named views are the open ones, and each sees what the record says
 pub record IsWorking (r : Record) (opened : List NamedBuilt) : Type 0 where
+  pub legal : IsLegal r
   pub holds : Holds (worker_of r opened)
-  pub running : IsRunning r
   pub shown : AllByRecursion (λ o. IsShown r o.view) opened
 
 -- ---- what calls leave
@@ -113,9 +95,10 @@ pub record IsWorking (r : Record) (opened : List NamedBuilt) : Type 0 where
 abbrev pub KeepsOpen : Record → Record → Type 0
 KeepsOpen r s = (kept : List View) → Views r.history kept → Views s.history kept
 
--- all views stay, and the same ones are open
+-- a legal record that continues another, so that all views stay, with the same ones open
 pub record Passes (r s : Record) : Type 0 where
-  pub stays : Stays r s
+  pub legal : IsLegal s
+  pub later : Extends r s
   pub open_stay : KeepsOpen r s
 
 -- ---- replies

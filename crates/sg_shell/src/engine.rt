@@ -4,7 +4,9 @@ ghost use Rattle.std.specs.List.{position_from};
 ghost use Rattle.sg_paths.specs.Operations.{plain_op};
 ghost use Rattle.index_core.specs.Histories.{Record};
 ghost use Rattle.index_core.specs.Records.{open_views};
+ghost use Rattle.index_core.specs.LegalHistories.{IsLegal};
 ghost use Rattle.index_core.specs.Calls.{empty_record, after_end};
+ghost use Rattle.index_single.specs.declared.caller.TheConstants.{CALLER};
 ghost use Rattle.sg_answers.specs.declared.limits.TheConstants.{MOST_QUEUED};
 ghost use Rattle.wire_json.specs.Commands.{suggests, command_of};
 ghost use Rattle.wire_json.specs.CommandForms.{plain_command, IsRead};
@@ -14,14 +16,14 @@ ghost use Rattle.sg_shell.specs.Workers.{Worker as PlainWorker, accept_step, que
 ghost use Rattle.sg_shell.specs.Workers.{open_step, close_step, flush_step, merge_step, step};
 ghost use Rattle.sg_shell.specs.Workers.{named, with_seen};
 ghost use Rattle.sg_shell.specs.Runs.{IsReportReply};
-ghost use Rattle.sg_shell.specs.Working.{IsRunning, Passes, IsWorking, IsShown, Answers, MayAnswer};
+ghost use Rattle.sg_shell.specs.Working.{Passes, IsWorking, IsShown, Answers, MayAnswer};
 ghost use Rattle.sg_shell.specs.Working.{worker_of, open_of, view_in, Holds};
 
-use crate::flushing::flush;
 use crate::merging::merge;
 use crate::opened::{Opened, end_opened, position_of};
-use crate::viewing::{answer_in, begin, end};
-use index_core::{Core, Refused, Why};
+use crate::viewing::{answer_in, begin, end, refresh};
+use index_core::{Refused, Why};
+use index_single::SingleIndex;
 use path_desk::Desk;
 use sg_analysis::Analyzer;
 use sg_base::Text;
@@ -29,11 +31,9 @@ use sg_context::Query;
 use sg_paths::Op;
 use sg_view::View;
 use std::alloc::{AllocError, Global};
+use std::sync::Wait;
 use wire_json::{Command, command};
 use wire_replies::{ErrorKind, Reply};
-
-/// The number under which the program calls its index.
-pub(crate) const CALLER: u32 = 0;
 
 /// The analyzer of the program's lines: it keeps separators.
 const STANDARD: Analyzer = Analyzer { separators: true };
@@ -44,46 +44,47 @@ pub(crate) const LANES: u32 = 1;
 /// One worker: the index, the memory of its searches, and its named views in the order of their
 /// opening. It can't be dropped: the views are given back.
 pub(crate) struct Worker {
-    pub core: Core,
+    pub index: SingleIndex,
     pub desk: Desk,
     pub opened: Vec<Opened>,
 }
 
 impl Worker {
-    pub(crate) fn new(alloc: Global) -> Worker
-        ensures core { result.core ≡ empty_record }
-        ensures opened { result.opened.items ≡ [] }
+    pub(crate) fn new(alloc: Global) -> Result<Worker, AllocError>
+        ensures index { IfOk result (λ w. w.index ≡ empty_record) }
+        ensures opened { IfOk result (λ w. w.opened.items ≡ []) }
     {
-        Worker {
-            core: Core::new(alloc),
+        let index = SingleIndex::new(alloc)?;
+        Ok(Worker {
+            index,
             desk: Desk::new(alloc),
             opened: Vec::new(alloc),
-        }
+        })
     }
 
     /// Ends all named views. Takes no memory.
-    pub(crate) fn give_back(self)
-        requires { Holds (worker_of self.core self.opened.items) }
+    pub(crate) fn give_back(self, wait: &impl Wait)
+        requires { Holds (worker_of self.index self.opened.items) }
     {
         let Worker {
-            mut core,
+            mut index,
             desk: _,
             mut opened,
         } = self;
         while let Some(last) = opened.pop() {
-            end_opened(&mut core, last);
+            end_opened(&mut index, wait, last);
         }
         opened.destroy_empty();
     }
 }
 
-fn accept(core: &mut Core, line: u64, op: Op) -> Result<Reply, AllocError>
-    ensures reply { IfOk result (λ r. (w : PlainWorker) → w.seen ≡ core.old
+fn accept(index: &mut SingleIndex, wait: &impl Wait, line: u64, op: Op) -> Result<Reply, AllocError>
+    ensures reply { IfOk result (λ r. (w : PlainWorker) → w.seen ≡ index.old
         → Answers line (accept_step CALLER line (plain_op op) w) (plain_reply r)
-        (with_seen core.new w)) }
-    ensures passes { Passes core.old core.new }
+        (with_seen index.new w)) }
+    ensures passes { Passes index.old index.new }
 {
-    match core.accept(CALLER, op) {
+    match index.accept(wait, op) {
         Ok(seq) => Ok(Reply::Seq { line, seq }),
         Err(Refused { op: _, why }) => match why {
             Why::Full { .. } => Ok(Reply::Error {
@@ -97,41 +98,43 @@ fn accept(core: &mut Core, line: u64, op: Op) -> Result<Reply, AllocError>
 
 // Answers a query in a view, and ends the view before the answer is looked at.
 fn answer_and_end(
-    core: &mut Core,
+    index: &mut SingleIndex,
+    wait: &impl Wait,
     desk: &mut Desk,
     alloc: Global,
     line: u64,
     query: &Query,
     view: View,
 ) -> Result<Reply, AllocError>
-    requires { Contains (open_views core.old) (view_in view) }
+    requires { Contains (open_views index.old) (view_in view) }
     ensures reply { IfOk result (λ reply. (r : Record) → IsShown r view
         → IsReportReply line (plain_reply reply) r (view_in view) query.now) }
     ensures few { query.now.k ≤ MOST_QUEUED }
-    ensures ended { core.new ≡ after_end CALLER view.number core.old }
+    ensures ended { index.new ≡ after_end CALLER view.number index.old }
+    ensures legal { IsLegal index.new }
 {
     let reply = answer_in(desk, alloc, &view, line, query);
-    end(core, view);
+    end(index, wait, view);
     reply
 }
 
 fn query(
-    core: &mut Core,
+    index: &mut SingleIndex,
+    wait: &impl Wait,
     desk: &mut Desk,
     alloc: Global,
     line: u64,
     query: &Query,
 ) -> Result<Reply, AllocError>
-    requires running { IsRunning core.old }
-    ensures reply { IfOk result (λ r. (w : PlainWorker) → w.seen ≡ core.old
+    ensures reply { IfOk result (λ r. (w : PlainWorker) → w.seen ≡ index.old
         → Answers line (query_step CALLER line query.now w) (plain_reply r)
-        (with_seen core.new w)) }
-    ensures passes { Passes core.old core.new }
+        (with_seen index.new w)) }
+    ensures passes { Passes index.old index.new }
 {
-    flush(core, alloc)?;
-    match begin(core, alloc)? {
+    refresh(index, wait)?;
+    match begin(index, wait)? {
         Some(view) => {
-            let reply = answer_and_end(core, desk, alloc, line, query, view)?;
+            let reply = answer_and_end(index, wait, desk, alloc, line, query, view)?;
             Ok(reply)
         }
         None => Ok(Reply::Error {
@@ -142,7 +145,7 @@ fn query(
 }
 
 fn ask(
-    core: &Core,
+    index: &SingleIndex,
     opened: &Vec<Opened>,
     desk: &mut Desk,
     alloc: Global,
@@ -150,11 +153,11 @@ fn ask(
     query: &Query,
     name: &Text,
 ) -> Result<Reply, AllocError>
-    requires { IsWorking core.now opened.now.items }
+    requires { IsWorking index.now opened.now.items }
     ensures { IfOk result (λ r. Answers line
         (named_step line query.now (named name.now (map open_of opened.now.items))
-        (worker_of core.now opened.now.items)) (plain_reply r)
-        (worker_of core.now opened.now.items)) }
+        (worker_of index.now opened.now.items)) (plain_reply r)
+        (worker_of index.now opened.now.items)) }
 {
     match position_of(opened, name) {
         Some(at) => {
@@ -171,25 +174,26 @@ fn ask(
 
 // A view under a name that no other has.
 fn open_new(
-    core: &mut Core,
+    index: &mut SingleIndex,
+    wait: &impl Wait,
     opened: &mut Vec<Opened>,
     alloc: Global,
     line: u64,
     name: Text,
 ) -> Result<Reply, AllocError>
-    requires working { IsWorking core.old opened.old.items }
+    requires working { IsWorking index.old opened.old.items }
     requires new { position_from (λ o. bytes_eq o.name name) 0 opened.old.items ≡ None }
     ensures reply { IfOk result (λ r. Answers line
         (open_step CALLER line name (named name (map open_of opened.old.items))
-        (worker_of core.old opened.old.items)) (plain_reply r)
-        (worker_of core.new opened.new.items)) }
-    ensures working { IsWorking core.new opened.new.items }
+        (worker_of index.old opened.old.items)) (plain_reply r)
+        (worker_of index.new opened.new.items)) }
+    ensures working { IsWorking index.new opened.new.items }
 {
     // A place for the view, before it begins.
     opened.reserve(1)?;
     let shown = Text::of(alloc, name.as_str())?;
-    flush(core, alloc)?;
-    match begin(core, alloc)? {
+    refresh(index, wait)?;
+    match begin(index, wait)? {
         Some(view) => {
             let upto = view.upto();
             opened.push_reserved(Opened { name, view });
@@ -207,21 +211,22 @@ fn open_new(
 }
 
 fn open(
-    core: &mut Core,
+    index: &mut SingleIndex,
+    wait: &impl Wait,
     opened: &mut Vec<Opened>,
     alloc: Global,
     line: u64,
     name: Text,
 ) -> Result<Reply, AllocError>
-    requires { IsWorking core.old opened.old.items }
+    requires { IsWorking index.old opened.old.items }
     ensures reply { IfOk result (λ r. Answers line
         (open_step CALLER line name (named name (map open_of opened.old.items))
-        (worker_of core.old opened.old.items)) (plain_reply r)
-        (worker_of core.new opened.new.items)) }
-    ensures working { IsWorking core.new opened.new.items }
+        (worker_of index.old opened.old.items)) (plain_reply r)
+        (worker_of index.new opened.new.items)) }
+    ensures working { IsWorking index.new opened.new.items }
 {
     match position_of(opened, &name) {
-        None => open_new(core, opened, alloc, line, name),
+        None => open_new(index, wait, opened, alloc, line, name),
         Some(_) => Ok(Reply::Error {
             line,
             error: ErrorKind::View,
@@ -229,18 +234,24 @@ fn open(
     }
 }
 
-fn close(core: &mut Core, opened: &mut Vec<Opened>, line: u64, name: Text) -> Reply
-    requires { IsWorking core.old opened.old.items }
+fn close(
+    index: &mut SingleIndex,
+    wait: &impl Wait,
+    opened: &mut Vec<Opened>,
+    line: u64,
+    name: Text,
+) -> Reply
+    requires { IsWorking index.old opened.old.items }
     ensures reply { Answers line
         (close_step CALLER line name (named name (map open_of opened.old.items))
-        (worker_of core.old opened.old.items)) (plain_reply result)
-        (worker_of core.new opened.new.items) }
-    ensures working { IsWorking core.new opened.new.items }
+        (worker_of index.old opened.old.items)) (plain_reply result)
+        (worker_of index.new opened.new.items) }
+    ensures working { IsWorking index.new opened.new.items }
 {
     match position_of(opened, &name) {
         Some(at) => {
             let closed = opened.remove(at);
-            end_opened(core, closed);
+            end_opened(index, wait, closed);
             Reply::Closed { line, view: name }
         }
         None => Reply::Error {
@@ -252,25 +263,33 @@ fn close(core: &mut Core, opened: &mut Vec<Opened>, line: u64, name: Text) -> Re
 
 fn suggest(
     worker: &mut Worker,
+    wait: &impl Wait,
     alloc: Global,
     line: u64,
     asked: &Query,
     view: Option<Text>,
 ) -> Result<Reply, AllocError>
-    requires { IsWorking worker.old.core worker.old.opened.items }
+    requires { IsWorking worker.old.index worker.old.opened.items }
     ensures reply { IfOk result (λ r. (lane : ℕ) → Answers line
         (step CALLER line (suggests lane asked.now view)
-        (worker_of worker.old.core worker.old.opened.items)) (plain_reply r)
-        (worker_of worker.new.core worker.new.opened.items)) }
-    ensures working { IsWorking worker.new.core worker.new.opened.items }
+        (worker_of worker.old.index worker.old.opened.items)) (plain_reply r)
+        (worker_of worker.new.index worker.new.opened.items)) }
+    ensures working { IsWorking worker.new.index worker.new.opened.items }
 {
     match view {
         None => {
-            let reply = query(&mut worker.core, &mut worker.desk, alloc, line, asked)?;
+            let reply = query(
+                &mut worker.index,
+                wait,
+                &mut worker.desk,
+                alloc,
+                line,
+                asked,
+            )?;
             Ok(reply)
         }
         Some(name) => ask(
-            &worker.core,
+            &worker.index,
             &worker.opened,
             &mut worker.desk,
             alloc,
@@ -281,62 +300,65 @@ fn suggest(
     }
 }
 
-fn flush_line(core: &mut Core, alloc: Global, line: u64) -> Result<Reply, AllocError>
-    ensures reply { IfOk result (λ r. (w : PlainWorker) → w.seen ≡ core.old
-        → Answers line (flush_step CALLER line w) (plain_reply r) (with_seen core.new w)) }
-    ensures passes { Passes core.old core.new }
+fn flush_line(index: &mut SingleIndex, wait: &impl Wait, line: u64) -> Result<Reply, AllocError>
+    ensures reply { IfOk result (λ r. (w : PlainWorker) → w.seen ≡ index.old
+        → Answers line (flush_step CALLER line w) (plain_reply r) (with_seen index.new w)) }
+    ensures passes { Passes index.old index.new }
 {
-    let count = flush(core, alloc)?;
+    let count = refresh(index, wait)?;
     Ok(Reply::Built { line, count })
 }
 
-fn merge_line(core: &mut Core, line: u64) -> Result<Reply, AllocError>
-    ensures reply { IfOk result (λ r. (w : PlainWorker) → w.seen ≡ core.old
-        → Answers line (merge_step CALLER line w) (plain_reply r) (with_seen core.new w)) }
-    ensures passes { Passes core.old core.new }
+fn merge_line(index: &mut SingleIndex, wait: &impl Wait, line: u64) -> Result<Reply, AllocError>
+    ensures reply { IfOk result (λ r. (w : PlainWorker) → w.seen ≡ index.old
+        → Answers line (merge_step CALLER line w) (plain_reply r) (with_seen index.new w)) }
+    ensures passes { Passes index.old index.new }
 {
-    let count = merge(core)?;
+    let count = merge(index, wait)?;
     Ok(Reply::Merged { line, count })
 }
 
 /// What a command prints as line number `line`, if it prints anything.
 fn step(
     worker: &mut Worker,
+    wait: &impl Wait,
     alloc: Global,
     line: u64,
     command: Command,
 ) -> Result<Option<Reply>, AllocError>
-    requires working { IsWorking worker.old.core worker.old.opened.items }
+    requires working { IsWorking worker.old.index worker.old.opened.items }
     requires read { IsRead (plain_command command) }
     ensures reply { IfOk result (λ r. MayAnswer line
         (step CALLER line (plain_command command)
-        (worker_of worker.old.core worker.old.opened.items)) (option_map plain_reply r)
-        (worker_of worker.new.core worker.new.opened.items)) }
-    ensures working { IsWorking worker.new.core worker.new.opened.items }
+        (worker_of worker.old.index worker.old.opened.items)) (option_map plain_reply r)
+        (worker_of worker.new.index worker.new.opened.items)) }
+    ensures working { IsWorking worker.new.index worker.new.opened.items }
 {
     match command {
         Command::Blank => Ok(None),
-        Command::Accept { lane: _, op } => Ok(Some(accept(&mut worker.core, line, op)?)),
+        Command::Accept { lane: _, op } => Ok(Some(accept(&mut worker.index, wait, line, op)?)),
         Command::Suggest {
             lane: _,
             query,
             view,
-        } => Ok(Some(suggest(worker, alloc, line, &query, view)?)),
+        } => Ok(Some(suggest(worker, wait, alloc, line, &query, view)?)),
         Command::OpenView { lane: _, name } => Ok(Some(open(
-            &mut worker.core,
+            &mut worker.index,
+            wait,
             &mut worker.opened,
             alloc,
             line,
             name,
         )?)),
         Command::CloseView { lane: _, name } => Ok(Some(close(
-            &mut worker.core,
+            &mut worker.index,
+            wait,
             &mut worker.opened,
             line,
             name,
         ))),
-        Command::Flush { lane: _ } => Ok(Some(flush_line(&mut worker.core, alloc, line)?)),
-        Command::Merge { lane: _ } => Ok(Some(merge_line(&mut worker.core, line)?)),
+        Command::Flush { lane: _ } => Ok(Some(flush_line(&mut worker.index, wait, line)?)),
+        Command::Merge { lane: _ } => Ok(Some(merge_line(&mut worker.index, wait, line)?)),
         // No line asks for a barrier, and the caller knows.
         Command::Barrier => unreachable!(),
     }
@@ -345,19 +367,20 @@ fn step(
 /// What a line prints as line number `line`, if it prints anything.
 pub(crate) fn answer(
     worker: &mut Worker,
+    wait: &impl Wait,
     alloc: Global,
     line: u64,
     bytes: &[u8],
 ) -> Result<Option<Reply>, AllocError>
-    requires { IsWorking worker.old.core worker.old.opened.items }
+    requires { IsWorking worker.old.index worker.old.opened.items }
     ensures reply { IfOk result (λ r. MayAnswer line
         (step CALLER line (command_of standard LANES bytes.now)
-        (worker_of worker.old.core worker.old.opened.items)) (option_map plain_reply r)
-        (worker_of worker.new.core worker.new.opened.items)) }
-    ensures working { IsWorking worker.new.core worker.new.opened.items }
+        (worker_of worker.old.index worker.old.opened.items)) (option_map plain_reply r)
+        (worker_of worker.new.index worker.new.opened.items)) }
+    ensures working { IsWorking worker.new.index worker.new.opened.items }
 {
     match command(alloc, bytes, LANES, &STANDARD) {
-        Ok(command) => step(worker, alloc, line, command),
+        Ok(command) => step(worker, wait, alloc, line, command),
         Err(refused) => match refused.kind() {
             Some(error) => Ok(Some(Reply::Error { line, error })),
             None => Err(AllocError),

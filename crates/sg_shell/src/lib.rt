@@ -1,9 +1,8 @@
-//! The running program: reads an input to its end, answers its lines in order over the core of the
-//! index, and writes the replies. Contracts see input and output as bytes.
+//! The running program: reads an input to its end, answers its lines in order over an index that it
+//! has alone, and writes the replies. Contracts see input and output as bytes.
 #![tactic(auto)]
 
 mod engine;
-mod flushing;
 mod laws;
 mod lines;
 mod merging;

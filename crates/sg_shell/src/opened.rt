@@ -2,15 +2,17 @@
 ghost use Rattle.std.specs.Prelude.{◌≡◌, bytes_eq, Contains};
 ghost use Rattle.std.specs.List.{position_from};
 ghost use Rattle.index_core.specs.Records.{open_views};
+ghost use Rattle.index_core.specs.LegalHistories.{IsLegal};
 ghost use Rattle.index_core.specs.Calls.{after_end};
+ghost use Rattle.index_single.specs.declared.caller.TheConstants.{CALLER};
 ghost use Rattle.sg_shell.specs.Working.{view_in};
 
-use crate::engine::CALLER;
 use crate::viewing::end;
-use index_core::Core;
+use index_single::SingleIndex;
 use sg_base::Text;
 use sg_view::View;
 use std::marker::Model;
+use std::sync::Wait;
 
 /// A view under its name. It can't be dropped.
 pub(crate) struct Opened {
@@ -40,10 +42,11 @@ pub(crate) fn position_of(opened: &Vec<Opened>, name: &Text) -> Option<usize>
 }
 
 /// Ends the view. Takes no memory.
-pub(crate) fn end_opened(core: &mut Core, opened: Opened)
-    requires { Contains (open_views core.old) (view_in opened.view) }
-    ensures { core.new ≡ after_end CALLER opened.view.number core.old }
+pub(crate) fn end_opened(index: &mut SingleIndex, wait: &impl Wait, opened: Opened)
+    requires { Contains (open_views index.old) (view_in opened.view) }
+    ensures ended { index.new ≡ after_end CALLER opened.view.number index.old }
+    ensures legal { IsLegal index.new }
 {
     let Opened { name: _, view } = opened;
-    end(core, view);
+    end(index, wait, view);
 }

@@ -10,6 +10,7 @@ use sg_base::Text;
 use sg_edge::{StdSink, StdSource};
 use std::env::Env;
 use std::io::{Eprint, ErrorKind};
+use std::sync::Wait;
 use std::{env, io};
 
 // The arguments after the program's name.
@@ -30,19 +31,19 @@ fn unread(error: &io::Error) -> Status {
     }
 }
 
-fn status<R: Env + Input + Print + AllocGlobal>(rt: &R) -> Status {
+fn status<R: Env + Input + Print + AllocGlobal + Wait>(rt: &R) -> Status {
     let words = match arguments(rt) {
         Ok(words) => words,
         Err(error) => return unread(&error),
     };
     let mut source = StdSource::new(rt.reader());
     let mut sink = StdSink::new(io::writer(rt));
-    run(rt.alloc(), words.as_slice(), &mut source, &mut sink)
+    run(rt, rt.alloc(), words.as_slice(), &mut source, &mut sink)
 }
 
 /// Gives the arguments, standard input and standard output to `run`, says on standard error how it
 /// ended where it didn't end well, and answers the exit status.
-pub fn run_program<R: Env + Input + Print + Eprint + AllocGlobal>(rt: &R) -> u8
+pub fn run_program<R: Env + Input + Print + Eprint + AllocGlobal + Wait>(rt: &R) -> u8
     ensures { (s : Status) × (result ≡ code_of s) }
 {
     let status = status(rt);

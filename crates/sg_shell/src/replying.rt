@@ -8,6 +8,7 @@ ghost use Rattle.sg_shell.specs.Working.{worker_of, Holds, printed};
 use crate::engine::{Worker, answer};
 use crate::lines::first_line;
 use std::alloc::{AllocError, Global};
+use std::sync::Wait;
 use wire_replies::{Reply, reply};
 
 fn push_reply(
@@ -25,12 +26,17 @@ fn push_reply(
     Ok(())
 }
 
-fn replies_by(worker: &mut Worker, alloc: Global, input: &[u8]) -> Result<Vec<u8>, AllocError>
+fn replies_by(
+    worker: &mut Worker,
+    wait: &impl Wait,
+    alloc: Global,
+    input: &[u8],
+) -> Result<Vec<u8>, AllocError>
     requires fits { length input.now ≤ 2 ^ 30 }
-    requires core { worker.old.core ≡ empty_record }
+    requires index { worker.old.index ≡ empty_record }
     requires opened { worker.old.opened.items ≡ [] }
     ensures session { IfOk result (λ output. Session input.now output.items) }
-    ensures holds { Holds (worker_of worker.new.core worker.new.opened.items) }
+    ensures holds { Holds (worker_of worker.new.index worker.new.opened.items) }
 {
     let mut output = Vec::new(alloc);
     let mut number = 0u64;
@@ -38,7 +44,7 @@ fn replies_by(worker: &mut Worker, alloc: Global, input: &[u8]) -> Result<Vec<u8
     while let Some(split) = first_line(rest) {
         rest = split.rest;
         number += 1;
-        let answered = answer(worker, alloc, number, split.line)?;
+        let answered = answer(worker, wait, alloc, number, split.line)?;
         push_reply(alloc, &mut output, answered)?;
     }
     Ok(output)
@@ -46,12 +52,16 @@ fn replies_by(worker: &mut Worker, alloc: Global, input: &[u8]) -> Result<Vec<u8
 
 /// The replies to the lines of an input, in order. Time and memory are linear in the input and the
 /// output, beside what each query takes. All views are given back.
-pub(crate) fn replies_to(alloc: Global, input: &[u8]) -> Result<Vec<u8>, AllocError>
+pub(crate) fn replies_to(
+    wait: &impl Wait,
+    alloc: Global,
+    input: &[u8],
+) -> Result<Vec<u8>, AllocError>
     requires { length input.now ≤ 2 ^ 30 }
     ensures { IfOk result (λ output. Session input.now output.items) }
 {
-    let mut worker = Worker::new(alloc);
-    let output = replies_by(&mut worker, alloc, input);
-    worker.give_back();
+    let mut worker = Worker::new(alloc)?;
+    let output = replies_by(&mut worker, wait, alloc, input);
+    worker.give_back(wait);
     output
 }

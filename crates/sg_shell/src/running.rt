@@ -11,6 +11,7 @@ use crate::writing::write_all;
 use sg_base::Text;
 use sg_edge::{PutError, Sink, Source};
 use std::alloc::Global;
+use std::sync::Wait;
 
 fn is_a_run(words: &[Text]) -> bool
     ensures { result ≡ is_run words.now }
@@ -29,31 +30,37 @@ fn write_output<K: Sink>(sink: &mut K, output: &[u8]) -> Status
 }
 
 // Answers an input that was read to its end.
-fn answer_input<K: Sink>(alloc: Global, input: &[u8], sink: &mut K) -> Status
+fn answer_input<R: Wait, K: Sink>(rt: &R, alloc: Global, input: &[u8], sink: &mut K) -> Status
     requires { length input.now ≤ MOST_INPUT_BYTES }
     ensures { AnswerEnds (sink_of K.given K.faults) input.now result sink.old sink.new }
 {
-    match replies_to(alloc, input) {
+    match replies_to(rt, alloc, input) {
         Ok(output) => write_output(sink, output.as_slice()),
         Err(_) => Status::Memory,
     }
 }
 
 // The run of the one word `run`.
-fn run_input<S: Source, K: Sink>(alloc: Global, source: &mut S, sink: &mut K) -> Status
+fn run_input<R: Wait, S: Source, K: Sink>(
+    rt: &R,
+    alloc: Global,
+    source: &mut S,
+    sink: &mut K,
+) -> Status
     ensures runs { result ≢ Status.Usage }
     ensures ends { RunEnds (source_of S.left S.faults S.ended) (sink_of K.given K.faults)
         result source.old source.new sink.old sink.new }
 {
     match read_input(alloc, source) {
-        Ok(input) => answer_input(alloc, input.as_slice(), sink),
+        Ok(input) => answer_input(rt, alloc, input.as_slice(), sink),
         Err(ReadError::Fault) => Status::ReadFault,
         Err(ReadError::TooLong) => Status::TooLong,
         Err(ReadError::Memory) => Status::Memory,
     }
 }
 
-fn run_words<S: Source, K: Sink>(
+fn run_words<R: Wait, S: Source, K: Sink>(
+    rt: &R,
     alloc: Global,
     words: &[Text],
     source: &mut S,
@@ -64,7 +71,7 @@ fn run_words<S: Source, K: Sink>(
         result source.old source.new sink.old sink.new }
 {
     if is_a_run(words) {
-        run_input(alloc, source, sink)
+        run_input(rt, alloc, source, sink)
     } else {
         Status::Usage
     }
@@ -72,7 +79,8 @@ fn run_words<S: Source, K: Sink>(
 
 /// Runs the program with these arguments: reads the input to its end, and writes the replies to its
 /// lines in order.
-pub fn run<S: Source, K: Sink>(
+pub fn run<R: Wait, S: Source, K: Sink>(
+    rt: &R,
     alloc: Global,
     words: &[Text],
     source: &mut S,
@@ -91,5 +99,5 @@ pub fn run<S: Source, K: Sink>(
         source.old source.new sink.old sink.new
         → EndsByLength result (S.left source.old) }
 {
-    run_words(alloc, words, source, sink)
+    run_words(rt, alloc, words, source, sink)
 }

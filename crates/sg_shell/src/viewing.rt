@@ -7,40 +7,54 @@ ghost use Rattle.collector.specs.Hits.{rows_of};
 ghost use Rattle.sg_answers.specs.declared.limits.TheConstants.{MOST_QUEUED};
 ghost use Rattle.index_core.specs.Histories.{Record};
 ghost use Rattle.index_core.specs.Records.{open_views};
+ghost use Rattle.index_core.specs.LegalHistories.{IsLegal};
 ghost use Rattle.index_core.specs.OpenViews.{view_of};
 ghost use Rattle.index_core.specs.Calls.{after_end};
-ghost use Rattle.segment.specs.Views.{AreBuildable, AreParts};
+ghost use Rattle.segment.specs.Views.{AreParts};
 ghost use Rattle.sg_view.specs.Viewing.{IsViewOf, Represents, viewed_segments};
 ghost use Rattle.sg_view.specs.Rows.{HasHit, IsNumbered, hit_key};
+ghost use Rattle.index_shared.specs.Offers.{after_flush, built_by_flush};
+ghost use Rattle.index_single.specs.declared.caller.TheConstants.{CALLER};
 ghost use Rattle.wire_replies.specs.ReplyForms.{plain_reply};
 ghost use Rattle.sg_shell.specs.Runs.{IsReportReply};
-ghost use Rattle.sg_shell.specs.Working.{IsRunning, Passes, IsShown, Begins, view_in, hit_row};
+ghost use Rattle.sg_shell.specs.Working.{Passes, IsShown, Begins, view_in, hit_row};
 
-use crate::engine::CALLER;
 use collector::Report;
-use index_core::{Core, ViewError};
+use index_core::ViewError;
+use index_single::SingleIndex;
 use path_desk::{Desk, SegReport};
-use segment::ViewParts;
 use sg_base::{Hit, List, Plain, Steps, Text};
 use sg_context::Query;
 use sg_view::{Ticket, View};
 use std::alloc::{AllocError, Global};
+use std::sync::Wait;
 use wire_replies::{OutRow, Reply};
 
-// Builds the view that has begun; ends it where there is no memory for that.
-fn build(core: &mut Core, alloc: Global, parts: ViewParts) -> Result<View, AllocError>
-    requires buildable { AreBuildable parts }
-    requires open { Contains (open_views core.old) (view_of CALLER parts) }
-    ensures ok { IfOk result (IsViewOf parts) }
-    ensures represents { IfOk result (λ v. (journal : Items PlainOp)
-        → AreParts journal parts → Represents journal v) }
-    ensures unchanged { OnOk result (core.new ≡ core.old) }
-    ensures ended { OnErr result (core.new ≡ after_end CALLER parts.number core.old) }
+/// Brings the index up to date: what is buffered is frozen, the segments that are missing are built,
+/// and all deletes that are frozen applied. Answers how many segments it built. Want of memory may
+/// come between two of these steps, and what was done stays done.
+pub(crate) fn refresh(index: &mut SingleIndex, wait: &impl Wait) -> Result<u32, AllocError>
+    ensures count { IfOk result (λ count. count ≡ built_by_flush CALLER index.old) }
+    ensures ok { OnOk result (index.new ≡ after_flush CALLER index.old) }
+    ensures passes { Passes index.old index.new }
 {
-    match Ticket::of(alloc, parts).build() {
+    index.offer(wait)
+}
+
+// Builds the view that has begun; ends it where there is no memory for that.
+fn build(index: &mut SingleIndex, wait: &impl Wait, ticket: Ticket) -> Result<View, AllocError>
+    requires { Contains (open_views index.old) (view_of CALLER ticket) }
+    ensures ok { IfOk result (IsViewOf ticket) }
+    ensures represents { IfOk result (λ v. (journal : Items PlainOp)
+        → AreParts journal ticket → Represents journal v) }
+    ensures unchanged { OnOk result (index.new ≡ index.old) }
+    ensures ended { OnErr result (index.new ≡ after_end CALLER ticket.number index.old) }
+    ensures legal { OnErr result (IsLegal index.new) }
+{
+    match ticket.build() {
         Ok(view) => Ok(view),
         Err(ticket) => {
-            let _ = core.end_view(CALLER, ticket.parts());
+            let _ = index.end_ticket(wait, ticket);
             Err(AllocError)
         }
     }
@@ -48,13 +62,13 @@ fn build(core: &mut Core, alloc: Global, parts: ViewParts) -> Result<View, Alloc
 
 /// Begins a view of all operations and builds it; `None` where too many are open. After want of
 /// memory it has ended again.
-pub(crate) fn begin(core: &mut Core, alloc: Global) -> Result<Option<View>, AllocError>
-    requires { IsRunning core.old }
-    ensures ok { IfOk result (Begins core.old core.new) }
-    ensures err { OnErr result (Passes core.old core.new) }
+pub(crate) fn begin(index: &mut SingleIndex, wait: &impl Wait) -> Result<Option<View>, AllocError>
+    ensures ok { IfOk result (Begins index.old index.new) }
+    ensures err { OnErr result (Passes index.old index.new) }
+    ensures legal { IsLegal index.new }
 {
-    match core.begin_view(CALLER) {
-        Ok(parts) => match build(core, alloc, parts) {
+    match index.begin_view(wait) {
+        Ok(ticket) => match build(index, wait, ticket) {
             Ok(view) => Ok(Some(view)),
             Err(error) => Err(error),
         },
@@ -64,11 +78,12 @@ pub(crate) fn begin(core: &mut Core, alloc: Global) -> Result<Option<View>, Allo
 }
 
 /// Ends a view. Takes no memory.
-pub(crate) fn end(core: &mut Core, view: View)
-    requires { Contains (open_views core.old) (view_in view) }
-    ensures { core.new ≡ after_end CALLER view.number core.old }
+pub(crate) fn end(index: &mut SingleIndex, wait: &impl Wait, view: View)
+    requires { Contains (open_views index.old) (view_in view) }
+    ensures ended { index.new ≡ after_end CALLER view.number index.old }
+    ensures legal { IsLegal index.new }
 {
-    let _ = core.end_view(CALLER, view.parts());
+    let _ = index.end_view(wait, view);
 }
 
 fn out_row(alloc: Global, view: &View, hit: &Hit) -> Result<OutRow, AllocError>

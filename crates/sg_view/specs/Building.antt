@@ -2,11 +2,9 @@
 use Rattle.std.specs.Prelude.{◌≡◌, ◌<◌, ◌^◌, ℕ, List, length, map}
 use Rattle.std.specs.List.{AllByRecursion}
 use Rattle.sg_paths.specs.Operations.{PlainBatch}
-use Rattle.seg_live.specs.LiveDocs.{live_without}
-use Rattle.seg_table.specs.Ids.{places_from}
-use Rattle.segment.specs.Pieces.{PlainPiece, piece_documents, live_docs_or_all}
+use Rattle.segment.specs.Pieces.{PlainPiece, piece_documents}
 use Rattle.segment.specs.Views.{PlainParts}
-use Rattle.delete_queue.specs.Deletes.{is_dead_in}
+use Rattle.piece_docs.specs.PieceDocs.{live_docs_less}
 use Rattle.sg_view.specs.Viewing.{LiveSegment, PlainView}
 
 -- a piece less the documents that batches delete, up to upto
@@ -14,9 +12,7 @@ abbrev pub piece_at : ℕ → List PlainBatch → PlainPiece → LiveSegment
 piece_at upto batches p = record {
   generation = p.generation;
   documents = piece_documents p;
-  live_docs = live_without 0
-      (places_from 0 (is_dead_in p.applied upto batches) (piece_documents p))
-      (live_docs_or_all (piece_documents p) p.live_docs);
+  live_docs = live_docs_less upto batches p;
 }
 
 -- the view that is built of parts

@@ -16,7 +16,7 @@ use std::sync::Arc;
 pub(crate) struct Viewed {
     pub(crate) generation: u32,
     pub(crate) segment: Arc<Segment>,
-    pub(crate) live: Live,
+    pub(crate) live: Arc<Live>,
 }
 
 impl Model for Viewed {
@@ -27,7 +27,7 @@ impl Model for Viewed {
     ghost view = { λ s. record {
       generation = s.generation;
       documents = s.segment.value;
-      live_docs = s.live;
+      live_docs = s.live.value;
     } };
 }
 

@@ -1,5 +1,5 @@
 -- What is kept is within the limits of a segment.
-use Rattle.std.proofs.Common.{◌≡◌, ◌≤◌, ◌∙◌, List, length, sym, subst, map}
+use Rattle.std.proofs.Common.{◌≤◌, ◌∙◌, List, length, sym, subst, map}
 use Rattle.sg_paths.specs.declared.limits.TheConstants.{MOST_SEGMENT_DOCUMENTS}
 use Rattle.sg_paths.specs.declared.limits.TheConstants.{MOST_SEGMENT_PATHS}
 use Rattle.sg_paths.specs.Operations.{PlainNumbered}

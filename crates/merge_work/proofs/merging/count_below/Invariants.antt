@@ -1,5 +1,5 @@
 -- All so far are below, so the count goes on with the rest.
-use Rattle.std.proofs.Common.{◌≡◌, ◌≤◌, ◌+◌, drop, length}
+use Rattle.std.proofs.Common.{◌≡◌, ◌+◌, drop}
 use Rattle.merge_work.specs.Working.{count_below}
 use Rattle.merge_work.proofs.merging.count_below.Given as goal
 

@@ -1,5 +1,5 @@
 -- One source more is merged.
-use Rattle.std.proofs.Common.{◌≡◌, ◌≤◌, ◌∙◌, sym, ap, subst, arith, map, drop, List}
+use Rattle.std.proofs.Common.{◌∙◌, ap, subst, arith, map, drop, List}
 use Rattle.std.specs.List.{flat_map}
 use Rattle.sg_base.specs.Ranking.{in_order}
 use Rattle.sg_paths.specs.Operations.{PlainNumbered}

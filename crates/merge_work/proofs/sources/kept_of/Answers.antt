@@ -1,6 +1,5 @@
 -- One document more.
-use Rattle.std.proofs.Common.{◌≡◌, ◌<◌, ◌≤◌, ◌+◌, ◌∙◌, ◌++◌, sym, ap, true, arith, length}
-use Rattle.merge_work.specs.Working.{no_document}
+use Rattle.std.proofs.Common.{true, arith}
 use Rattle.merge_work.proofs.LiveLemmas.{kept_one_more}
 use Rattle.merge_work.proofs.sources.kept_of.Goals as goal
 

@@ -4,6 +4,6 @@ use Rattle.sg_shell.proofs.EngineLemmas.{refused_answers}
 use Rattle.sg_shell.proofs.engine.answer.Goals as goal
 
 pub returns-in-Some-clause-reply : goal.returns-in-Some-clause-reply
-returns-in-Some-clause-reply c =
+returns-in-Some-clause-reply g c =
     refused_answers c.args.line _ c.in-Err.refused c.in-Some.error _
     (sym c.kind.ensures ∙ c.in-Some.is) c.in-Err.ensures.refused

@@ -14,7 +14,7 @@ index-found-requires c =
 
 pub returns-in_ok-reply-in-Some : goal.returns-in_ok-reply-in-Some
 returns-in_ok-reply-in-Some c =
-    answer_named c.args.line c.args.name.now c.args.query.now c.args.core.now
+    answer_named c.args.line c.args.name.now c.args.query.now c.args.index.now
     c.args.opened.now.items c.in-Some.at _ _ c.requires
     (sym c.position_of.ensures ∙ c.in-Some.is)
     (subst (λ (o : NamedBuilt). o ≡ slice_index_or c.args.opened.now.items c.in-Some.at o)
@@ -23,5 +23,5 @@ returns-in_ok-reply-in-Some c =
 
 pub returns-in-None : goal.returns-in-None
 returns-in-None c =
-    answer_unknown c.args.line c.args.name.now c.args.query.now c.args.core.now
+    answer_unknown c.args.line c.args.name.now c.args.query.now c.args.index.now
     c.args.opened.now.items (sym c.position_of.ensures ∙ c.in-None.is)

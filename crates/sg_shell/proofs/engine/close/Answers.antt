@@ -8,7 +8,7 @@ use Rattle.sg_shell.proofs.NamedLemmas.{found_at, close_unknown, close_found}
 use Rattle.sg_shell.proofs.engine.close.Goals as goal
 
 pub remove-closed-requires : goal.remove-closed-requires
-remove-closed-requires c =
+remove-closed-requires g c =
     let found = found_at c.args.name c.args.opened.now.items c.in-Some.at
     (sym c.position_of.ensures ∙ c.in-Some.is) in
     let within = found.within in
@@ -16,29 +16,31 @@ remove-closed-requires c =
     omega (arith, within, long)
 
 pub end_opened-requires : goal.end_opened-requires
-end_opened-requires c =
+end_opened-requires g c =
     let found = found_at c.args.name c.args.opened.now.items c.in-Some.at
     (sym c.position_of.ensures ∙ c.in-Some.is) in
-    subst (λ (o : NamedBuilt). Contains (open_views c.args.core.now) (view_in o.view))
+    subst (λ (o : NamedBuilt). Contains (open_views c.args.index.now) (view_in o.view))
     (sym c.remove-closed.ensures.value)
-    (is_open c.args.core.now c.args.opened.now.items c.in-Some.at c.remove-closed.result c.requires.holds
-    found.within)
+    (is_open c.args.index.now c.args.opened.now.items c.in-Some.at c.remove-closed.result
+    c.requires.holds found.within)
 
 pub returns-in-Some-clause-reply : goal.returns-in-Some-clause-reply
-returns-in-Some-clause-reply c =
-    (close_found c.args.line c.args.name c.args.core.now c.end_opened.new.core
-    c.args.opened.now.items c.remove-closed.new.self.items c.in-Some.at c.remove-closed.result c.requires
-    (sym c.position_of.ensures ∙ c.in-Some.is) c.remove-closed.ensures.value c.remove-closed.ensures.items
-    c.end_opened.ensures).answers
+returns-in-Some-clause-reply g c =
+    (close_found c.args.line c.args.name c.args.index.now c.end_opened.new.index
+    c.args.opened.now.items c.remove-closed.new.self.items c.in-Some.at c.remove-closed.result
+    c.end_opened.ensures.legal c.requires
+    (sym c.position_of.ensures ∙ c.in-Some.is) c.remove-closed.ensures.value
+    c.remove-closed.ensures.items c.end_opened.ensures.ended).answers
 
 pub returns-in-Some-clause-working : goal.returns-in-Some-clause-working
-returns-in-Some-clause-working c =
-    (close_found c.args.line c.args.name c.args.core.now c.end_opened.new.core
-    c.args.opened.now.items c.remove-closed.new.self.items c.in-Some.at c.remove-closed.result c.requires
-    (sym c.position_of.ensures ∙ c.in-Some.is) c.remove-closed.ensures.value c.remove-closed.ensures.items
-    c.end_opened.ensures).working
+returns-in-Some-clause-working g c =
+    (close_found c.args.line c.args.name c.args.index.now c.end_opened.new.index
+    c.args.opened.now.items c.remove-closed.new.self.items c.in-Some.at c.remove-closed.result
+    c.end_opened.ensures.legal c.requires
+    (sym c.position_of.ensures ∙ c.in-Some.is) c.remove-closed.ensures.value
+    c.remove-closed.ensures.items c.end_opened.ensures.ended).working
 
 pub returns-in-None-clause-reply : goal.returns-in-None-clause-reply
-returns-in-None-clause-reply c =
-    close_unknown c.args.line c.args.name c.args.core.now c.args.opened.now.items
+returns-in-None-clause-reply g c =
+    close_unknown c.args.line c.args.name c.args.index.now c.args.opened.now.items
     (sym c.position_of.ensures ∙ c.in-None.is)

@@ -6,58 +6,58 @@ use Rattle.sg_shell.proofs.engine.step.Goals as goal
 
 pub returns-in_err-accept-in-Accept-clause-working :
     goal.returns-in_err-accept-in-Accept-clause-working
-returns-in_err-accept-in-Accept-clause-working c =
-    passes_working c.args.worker.now.core c.accept.new.core c.args.worker.now.opened.items
+returns-in_err-accept-in-Accept-clause-working g c =
+    passes_working c.args.worker.now.index c.accept.new.index c.args.worker.now.opened.items
     c.in_err-accept-in-Accept.ensures.passes c.requires.working
 
 pub returns-in_ok-accept-in-Accept-clause-reply : goal.returns-in_ok-accept-in-Accept-clause-reply
-returns-in_ok-accept-in-Accept-clause-reply c =
+returns-in_ok-accept-in-Accept-clause-reply g c =
     rw c.in-Accept.is (c.in_ok-accept-in-Accept.ensures.reply
-    (worker_of c.args.worker.now.core c.args.worker.now.opened.items) refl)
+    (worker_of c.args.worker.now.index c.args.worker.now.opened.items) refl)
 
 pub returns-in_ok-accept-in-Accept-clause-working :
     goal.returns-in_ok-accept-in-Accept-clause-working
-returns-in_ok-accept-in-Accept-clause-working c =
-    passes_working c.args.worker.now.core c.accept.new.core c.args.worker.now.opened.items
+returns-in_ok-accept-in-Accept-clause-working g c =
+    passes_working c.args.worker.now.index c.accept.new.index c.args.worker.now.opened.items
     c.in_ok-accept-in-Accept.ensures.passes c.requires.working
 
 pub returns-in_ok-suggest-in-Suggest-clause-reply :
     goal.returns-in_ok-suggest-in-Suggest-clause-reply
-returns-in_ok-suggest-in-Suggest-clause-reply c =
+returns-in_ok-suggest-in-Suggest-clause-reply g c =
     rw c.in-Suggest.is (c.in_ok-suggest-in-Suggest.ensures.reply c.in-Suggest.lane)
 
 pub returns-in_err-flush_line-in-Flush-clause-working :
     goal.returns-in_err-flush_line-in-Flush-clause-working
-returns-in_err-flush_line-in-Flush-clause-working c =
-    passes_working c.args.worker.now.core c.flush_line.new.core c.args.worker.now.opened.items
+returns-in_err-flush_line-in-Flush-clause-working g c =
+    passes_working c.args.worker.now.index c.flush_line.new.index c.args.worker.now.opened.items
     c.in_err-flush_line-in-Flush.ensures.passes c.requires.working
 
 pub returns-in_ok-flush_line-in-Flush-clause-reply :
     goal.returns-in_ok-flush_line-in-Flush-clause-reply
-returns-in_ok-flush_line-in-Flush-clause-reply c =
+returns-in_ok-flush_line-in-Flush-clause-reply g c =
     rw c.in-Flush.is (c.in_ok-flush_line-in-Flush.ensures.reply
-    (worker_of c.args.worker.now.core c.args.worker.now.opened.items) refl)
+    (worker_of c.args.worker.now.index c.args.worker.now.opened.items) refl)
 
 pub returns-in_ok-flush_line-in-Flush-clause-working :
     goal.returns-in_ok-flush_line-in-Flush-clause-working
-returns-in_ok-flush_line-in-Flush-clause-working c =
-    passes_working c.args.worker.now.core c.flush_line.new.core c.args.worker.now.opened.items
+returns-in_ok-flush_line-in-Flush-clause-working g c =
+    passes_working c.args.worker.now.index c.flush_line.new.index c.args.worker.now.opened.items
     c.in_ok-flush_line-in-Flush.ensures.passes c.requires.working
 
 pub returns-in_err-merge_line-in-Merge-clause-working :
     goal.returns-in_err-merge_line-in-Merge-clause-working
-returns-in_err-merge_line-in-Merge-clause-working c =
-    passes_working c.args.worker.now.core c.merge_line.new.core c.args.worker.now.opened.items
+returns-in_err-merge_line-in-Merge-clause-working g c =
+    passes_working c.args.worker.now.index c.merge_line.new.index c.args.worker.now.opened.items
     c.in_err-merge_line-in-Merge.ensures.passes c.requires.working
 
 pub returns-in_ok-merge_line-in-Merge-clause-reply :
     goal.returns-in_ok-merge_line-in-Merge-clause-reply
-returns-in_ok-merge_line-in-Merge-clause-reply c =
+returns-in_ok-merge_line-in-Merge-clause-reply g c =
     rw c.in-Merge.is (c.in_ok-merge_line-in-Merge.ensures.reply
-    (worker_of c.args.worker.now.core c.args.worker.now.opened.items) refl)
+    (worker_of c.args.worker.now.index c.args.worker.now.opened.items) refl)
 
 pub returns-in_ok-merge_line-in-Merge-clause-working :
     goal.returns-in_ok-merge_line-in-Merge-clause-working
-returns-in_ok-merge_line-in-Merge-clause-working c =
-    passes_working c.args.worker.now.core c.merge_line.new.core c.args.worker.now.opened.items
+returns-in_ok-merge_line-in-Merge-clause-working g c =
+    passes_working c.args.worker.now.index c.merge_line.new.index c.args.worker.now.opened.items
     c.in_ok-merge_line-in-Merge.ensures.passes c.requires.working

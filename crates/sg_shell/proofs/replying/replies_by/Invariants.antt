@@ -5,10 +5,10 @@ use Rattle.sg_shell.proofs.ReplyLemmas.{RanSoFar}
 use Rattle.sg_shell.proofs.replying.replies_by.Given as goal
 
 abbrev pub invariant-loop-split : goal.invariant-loop-split
-invariant-loop-split l =
-    RanSoFar l.input l.number l.rest l.output.items (worker_of l.worker.core l.worker.opened.items)
-    × IsWorking l.worker.core l.worker.opened.items
+invariant-loop-split g l =
+    RanSoFar l.input l.number l.rest l.output.items (worker_of l.worker.index l.worker.opened.items)
+    × IsWorking l.worker.index l.worker.opened.items
     × (l.number + length l.rest ≤ length l.input)
 
 abbrev pub decreases-loop-split : goal.decreases-loop-split
-decreases-loop-split l = length l.rest
+decreases-loop-split g l = length l.rest

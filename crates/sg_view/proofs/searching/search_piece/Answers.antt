@@ -15,7 +15,7 @@ returns-then-count-eq0-clause-adds g c =
       inr (
         none_live s c.viewed-viewed.ensures.counted
             (ap (λ (z : LiveSegment). live_count z.live_docs) (sym same)
-            ∙ sym c.count.ensures ∙ c.if-count-eq0.true),
+            ∙ ap live_count (sym c.deref.ensures) ∙ sym c.count.ensures ∙ c.if-count-eq0.true),
         refl,
         refl,
       ),
@@ -24,18 +24,20 @@ returns-then-count-eq0-clause-adds g c =
 
 pub search_live-requires-clause-live : goal.search_live-requires-clause-live
 search_live-requires-clause-live g c =
-    live_by (get_or c.args.view.now.segments c.args.piece no_segment) c.viewed.inside.live
+    live_by (get_or c.args.view.now.segments c.args.piece no_segment) c.deref.result.now
     c.count.result
-    (ap (λ (z : LiveSegment). z.live_docs) (c.viewed.view_is ∙ c.viewed-viewed.ensures.value))
+    (c.deref.ensures
+    ∙ ap (λ (z : LiveSegment). z.live_docs) (c.viewed.view_is ∙ c.viewed-viewed.ensures.value))
     c.viewed-viewed.ensures.counted c.count.ensures c.if-count-eq0.false
 
 pub returns-in_err-cut-clause-ticks : goal.returns-in_err-cut-clause-ticks
 returns-in_err-cut-clause-ticks g c =
     steps_by c.args.query.now (segment_at c.args.view.now.segments c.args.piece) c.args.steps.now
     c.search_live.new.steps
-    (live_by (get_or c.args.view.now.segments c.args.piece no_segment) c.viewed.inside.live
+    (live_by (get_or c.args.view.now.segments c.args.piece no_segment) c.deref.result.now
     c.count.result
-    (ap (λ (z : LiveSegment). z.live_docs) (c.viewed.view_is ∙ c.viewed-viewed.ensures.value))
+    (c.deref.ensures
+    ∙ ap (λ (z : LiveSegment). z.live_docs) (c.viewed.view_is ∙ c.viewed-viewed.ensures.value))
     c.viewed-viewed.ensures.counted c.count.ensures c.if-count-eq0.false)
     c.search_live.ensures.ticks
 
@@ -43,8 +45,9 @@ pub returns-clause-ticks : goal.returns-clause-ticks
 returns-clause-ticks g c =
     steps_by c.args.query.now (segment_at c.args.view.now.segments c.args.piece) c.args.steps.now
     c.search_live.new.steps
-    (live_by (get_or c.args.view.now.segments c.args.piece no_segment) c.viewed.inside.live
+    (live_by (get_or c.args.view.now.segments c.args.piece no_segment) c.deref.result.now
     c.count.result
-    (ap (λ (z : LiveSegment). z.live_docs) (c.viewed.view_is ∙ c.viewed-viewed.ensures.value))
+    (c.deref.ensures
+    ∙ ap (λ (z : LiveSegment). z.live_docs) (c.viewed.view_is ∙ c.viewed-viewed.ensures.value))
     c.viewed-viewed.ensures.counted c.count.ensures c.if-count-eq0.false)
     c.search_live.ensures.ticks

@@ -4,4 +4,4 @@ use Rattle.seg_live.specs.LiveDocs.{live_without}
 use Rattle.seg_live.proofs.live.Live.with_dead.Given as goal
 
 abbrev pub invariant-loop-doc : goal.invariant-loop-doc
-invariant-loop-doc l = l.live ≡ live_without 0 (take l.doc-index l.dead) l.self
+invariant-loop-doc l = l.bits ≡ live_without 0 (take l.doc-index l.dead) l.self

@@ -1,0 +1,5 @@
+pub mod Sections
+pub mod SharedCalls
+pub mod OwnViews
+pub mod Offers
+pub mod Offering

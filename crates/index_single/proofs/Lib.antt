@@ -1,0 +1,4 @@
+mod AloneLemmas
+mod UpkeepLemmas
+pub mod ViewNumberLemmas
+mod CallLemmas
