@@ -1,6 +1,7 @@
 """What the benchmarks share: lines of names, the built program, and the best of several runs."""
 
 import json
+import os
 import subprocess
 import sys
 import tempfile
@@ -71,13 +72,18 @@ def build():
         fail("the program couldn't be built")
 
 
+def least(*times):
+    return min(one for one in times if one is not None)
+
+
 class Input:
-    """Lines for the program, and how long it takes over them at best."""
+    """Lines for the program, how long it takes over them at best, and how long a processor does."""
 
     def __init__(self, title, lines):
         self.title = title
         self.lines = len(lines)
         self.best = None
+        self.busy = None
         self.text = "".join(f"{line}\n" for line in lines).encode()
 
     def run(self):
@@ -86,12 +92,14 @@ class Input:
             source.write(self.text)
             source.seek(0)
             start = time.perf_counter()
-            status = subprocess.run([PROGRAM, "run"], stdin=source, stdout=sink).returncode
+            begun = subprocess.Popen([PROGRAM, "run"], stdin=source, stdout=sink)
+            _, ended, used = os.wait4(begun.pid, 0)
             seconds = time.perf_counter() - start
-            if status != 0:
-                fail(f"{self.title}: the program ended with status {status}")
-            if self.best is None or seconds < self.best:
-                self.best = seconds
+            begun.returncode = os.waitstatus_to_exitcode(ended)
+            if begun.returncode != 0:
+                fail(f"{self.title}: the program ended with status {begun.returncode}")
+            self.best = least(seconds, self.best)
+            self.busy = least(used.ru_utime + used.ru_stime, self.busy)
             sink.seek(0)
             return sink.read()
 
