@@ -3,12 +3,15 @@
 #![tactic(auto)]
 
 mod batching;
+mod building;
 mod changing;
 mod event;
+mod freezing;
 mod laws;
 mod limits;
 mod machine;
 mod merge_laws;
+mod merging;
 mod own_list;
 mod parts;
 mod refusal;
@@ -17,6 +20,7 @@ mod sharing;
 mod sizing;
 mod slot;
 mod store;
+mod viewing;
 
 pub use event::Event;
 pub use index_holds::Freed;
