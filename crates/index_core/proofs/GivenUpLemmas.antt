@@ -1,19 +1,19 @@
 -- No more is given up than a view or a merge gives back.
-use Rattle.std.proofs.Common.{◌≡◌, ◌≤◌, ◌<◌, ◌+◌, ◌-◌, ℕ, Bool, true, false, cond, not, nat_eq}
+use Rattle.std.proofs.Common.{◌≡◌, ◌≤◌, ◌<◌, ◌-◌, ℕ, Bool, true, false, cond, not, nat_eq}
 use Rattle.std.proofs.Common.{◌||◌}
-use Rattle.std.proofs.Common.{List, [], ◌∷◌, length, map, refl, sym, ap, ◌∙◌, subst, arith}
+use Rattle.std.proofs.Common.{List, [], ◌∷◌, length, refl, sym, ap, ◌∙◌, subst, arith}
 use Rattle.std.specs.Prelude.{filter, nat_lt, All, IsTrue}
 use Rattle.std.specs.List.{AllByRecursion}
 use Rattle.std.specs.List.Sorted.{IsStrictlyIncreasing}
 use Rattle.index_holds.specs.declared.held.Held.{Held}
-use Rattle.index_holds.specs.Entries.{Rise, AreUsed, unheld}
+use Rattle.index_holds.specs.Entries.{Rise, AreUsed}
 use Rattle.index_holds.specs.Holders.{is_held, is_used, after_release, after_retire, given_up}
 use Rattle.index_holds.specs.Holders.{HasHolder, IsCurrentAndHeld}
 use Rattle.index_holds.proofs.EntryLemmas.{all_among}
 use Rattle.index_holds.proofs.FreedLemmas.{freed_exactly, held_of_entry}
 use Rattle.index_core.specs.Histories.{Record, is_among}
 use Rattle.index_core.specs.Records.{current, is_referenced}
-use Rattle.index_core.specs.HeldGenerations.{holder_count, IsEntryOf, AreHolds}
+use Rattle.index_core.specs.HeldGenerations.{IsEntryOf, AreHolds}
 use Rattle.index_core.proofs.HoldingLemmas.{referenced_is}
 use Rattle.index_core.proofs.RisingLemmas.{itself}
 

@@ -1,9 +1,8 @@
 -- What is held after a merge has begun, was dropped, or has ended.
-use Rattle.std.proofs.Common.{◌≡◌, ◌≤◌, ◌<◌, ◌+◌, ℕ, true, false, List, [], ◌∷◌, ◌++◌, map, refl}
-use Rattle.std.proofs.Common.{ap, sym, ◌∙◌, arith, Some, None}
+use Rattle.std.proofs.Common.{◌≡◌, ◌<◌, ℕ, true, false, List, [], ◌∷◌, map, refl}
+use Rattle.std.proofs.Common.{arith, Some, None}
 use Rattle.std.specs.Prelude.{All}
 use Rattle.std.specs.List.{AllByRecursion, filter_map}
-use Rattle.std.specs.List.Sorted.{IsStrictlyIncreasing}
 use Rattle.std.proofs.lemmas.List.Elements.{filter_map-append}
 use Rattle.index_holds.specs.declared.held.Held.{Held}
 use Rattle.index_holds.specs.Entries.{Rise}
@@ -14,8 +13,8 @@ use Rattle.index_holds.proofs.EntryLemmas.{rise-map, rise-filter, rise-with_curr
 use Rattle.index_holds.proofs.EntryLemmas.{generation-changed}
 use Rattle.index_core.specs.Histories.{HistoryEvent, merge_begin, merge_end, merge_drop, Record}
 use Rattle.index_core.specs.Histories.{Merge, is_among, closed_merge, drawn_generation}
-use Rattle.index_core.specs.Histories.{begun_view, merges_from}
-use Rattle.index_core.specs.Records.{with_event, drawn, current, next_merge, released}
+use Rattle.index_core.specs.Histories.{begun_view}
+use Rattle.index_core.specs.Records.{with_event, drawn, next_merge, released}
 use Rattle.index_core.specs.HeldGenerations.{AreHolds, RisesFrom, WereDrawn}
 use Rattle.index_core.specs.HeldEvents.{AreInUse, AreFewOpen, BeginsDrawn, MayEnd}
 use Rattle.index_core.specs.Fields.{AreHeld}

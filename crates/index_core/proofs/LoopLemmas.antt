@@ -1,15 +1,13 @@
 -- One item more in a loop over lists, over slots, or over the slots of a merge.
-use Rattle.std.proofs.Common.{◌≡◌, ◌<◌, ◌+◌, ℕ, List, [], ◌∷◌, ◌++◌, length, map, take, refl, sym}
+use Rattle.std.proofs.Common.{◌≡◌, ◌<◌, ◌+◌, ℕ, List, [], ◌∷◌, ◌++◌, length, map, take, sym}
 use Rattle.std.proofs.Common.{ap}
 use Rattle.std.proofs.Common.{◌∙◌, get_or}
-use Rattle.std.specs.Prelude.{filter}
 use Rattle.std.specs.List.{filter_map, flat_map}
 use Rattle.std.proofs.lemmas.List.{take_more, map-append, append-nil}
 use Rattle.std.proofs.lemmas.List.Elements.{filter-append, filter_map-append}
 use Rattle.std.proofs.lemmas.Grind.{flat_map-append}
 use Rattle.sg_paths.specs.Operations.{PlainBatch}
 use Rattle.segment.specs.Pieces.{PlainPiece}
-use Rattle.merge_plan.specs.declared.size.Size.{Size}
 use Rattle.index_core.specs.Histories.{is_among}
 use Rattle.index_core.specs.EndedMerges.{sources}
 use Rattle.index_core.specs.Slots.{PlainSlot, slot_piece, slot_size}

@@ -1,15 +1,14 @@
 -- The lists of open views and open merges, as these begin and end.
-use Rattle.std.proofs.Common.{◌≡◌, ◌≤◌, ◌<◌, ◌+◌, ◌-◌, ℕ, Bool, true, false, cond, not, nat_eq}
+use Rattle.std.proofs.Common.{◌≡◌, ◌≤◌, ◌+◌, ℕ, Bool, true, false, cond, not, nat_eq}
 use Rattle.std.proofs.Common.{None}
-use Rattle.std.proofs.Common.{List, [], ◌∷◌, ◌++◌, length, map, refl, sym, ap, ◌∙◌, subst, arith}
-use Rattle.std.specs.Prelude.{filter, Contains}
+use Rattle.std.proofs.Common.{List, [], ◌∷◌, ◌++◌, length, map, refl, sym, ap, ◌∙◌, arith}
+use Rattle.std.specs.Prelude.{filter}
 use Rattle.std.specs.List.{AllByRecursion, filter_map}
 use Rattle.std.proofs.lemmas.List.{length-append, map-append}
 use Rattle.index_core.specs.Histories.{HistoryEvent, merge_begin, view_end, View, Merge, is_among}
-use Rattle.index_core.specs.Histories.{begun_views, open_views, begun_merges, open_merges}
+use Rattle.index_core.specs.Histories.{open_views, begun_merges, open_merges}
 use Rattle.index_core.specs.Histories.{ended_view, closed_merge, begun_view, merges_from}
 use Rattle.index_core.specs.HeldGenerations.{IsOnce}
-use Rattle.index_core.specs.OpenViews.{without}
 use Rattle.index_core.specs.MergeCalls.{without_merge}
 use Rattle.index_core.specs.Calls.{beginning}
 use Rattle.index_core.specs.OwnLists.{PlainOwnList, list_of, without_list, PlainLists, AreLists}

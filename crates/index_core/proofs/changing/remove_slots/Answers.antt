@@ -1,5 +1,5 @@
 -- One slot more is kept, or none.
-use Rattle.std.proofs.Common.{◌≡◌, ◌<◌, ◌∙◌, true, false, sym, ap, not, length, arith}
+use Rattle.std.proofs.Common.{◌≡◌, ◌<◌, ◌∙◌, sym, ap, not, length, arith}
 use Rattle.std.proofs.lemmas.List.Filters.{FiltersInPlace-more_swap, FiltersInPlace-more_no}
 use Rattle.index_core.specs.Histories.{is_among}
 use Rattle.index_core.specs.Slots.{PlainSlot}

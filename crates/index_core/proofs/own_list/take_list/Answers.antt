@@ -1,5 +1,5 @@
 -- The first list under the number is taken out at its place.
-use Rattle.std.proofs.Common.{◌≡◌, ◌∙◌, sym, ap, arith, Some, None}
+use Rattle.std.proofs.Common.{◌∙◌, sym, ap, arith}
 use Rattle.std.specs.List.{position_from}
 use Rattle.index_core.specs.OwnLists.{PlainOwnList}
 use Rattle.index_core.proofs.OwnPlaceLemmas.{is_under, place_within, taken, none_under}

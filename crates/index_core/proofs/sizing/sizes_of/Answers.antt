@@ -1,5 +1,5 @@
 -- The size of one slot more, if it has one.
-use Rattle.std.proofs.Common.{◌≡◌, ◌∙◌, ◌++◌, ◌∷◌, [], List, sym, ap}
+use Rattle.std.proofs.Common.{◌∙◌, ◌++◌, ◌∷◌, [], List, sym, ap}
 use Rattle.std.specs.List.{filter_map}
 use Rattle.merge_plan.specs.declared.size.Size.{Size}
 use Rattle.index_core.specs.Slots.{slot_size}

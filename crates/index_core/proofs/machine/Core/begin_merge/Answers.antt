@@ -1,5 +1,5 @@
 -- What the store plans is what the record does.
-use Rattle.std.proofs.Common.{◌≡◌, ◌∙◌, ℕ, List, Some, None, sym, ap, subst}
+use Rattle.std.proofs.Common.{◌≡◌, ◌∙◌, None, sym, ap, subst}
 use Rattle.std.specs.Prelude.{option_map}
 use Rattle.index_core.specs.Histories.{Record}
 use Rattle.index_core.specs.Merges.{merge_plan}

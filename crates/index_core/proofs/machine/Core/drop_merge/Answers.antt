@@ -1,5 +1,5 @@
 -- The merge is one of the open ones.
-use Rattle.std.proofs.Common.{◌≡◌, ◌∙◌, ℕ, List, ap}
+use Rattle.std.proofs.Common.{◌≡◌, ◌∙◌, ap}
 use Rattle.segment.specs.Views.{PlainParts}
 use Rattle.index_core.specs.Histories.{Record}
 use Rattle.index_core.specs.Records.{open_views, open_merges}

@@ -1,5 +1,5 @@
 -- The slot of the generation is changed, if there is one to change, and there is an event more.
-use Rattle.std.proofs.Common.{◌≡◌, ◌∙◌, true, false, map, refl, sym, ap, subst}
+use Rattle.std.proofs.Common.{◌≡◌, ◌∙◌, true, false, map, sym, ap, subst}
 use Rattle.index_core.specs.HeldGenerations.{RisesFrom}
 use Rattle.index_core.specs.Keeping.{has_unbuilt}
 use Rattle.index_core.specs.Fields.{Stored}

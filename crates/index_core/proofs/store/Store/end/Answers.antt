@@ -1,5 +1,5 @@
 -- What nothing holds any more is told.
-use Rattle.std.proofs.Common.{◌≡◌, ◌∙◌, ◌++◌, ◌∷◌, [], List, ℕ, map, sym, ap}
+use Rattle.std.proofs.Common.{◌∙◌, ◌++◌, ◌∷◌, [], List, ℕ, map, ap}
 use Rattle.index_holds.specs.Holders.{given_up}
 use Rattle.index_core.specs.Histories.{event_of, view_end}
 use Rattle.index_core.specs.Fields.{ending}

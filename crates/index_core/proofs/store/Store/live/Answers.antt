@@ -1,5 +1,5 @@
 -- The slot of the generation is changed, if there is one to change, and there is an event more.
-use Rattle.std.proofs.Common.{◌∙◌, map, refl, sym, ap, subst}
+use Rattle.std.proofs.Common.{◌∙◌, map, sym, ap, subst}
 use Rattle.index_core.specs.HeldGenerations.{RisesFrom}
 use Rattle.index_core.specs.Keeping.{has_behind}
 use Rattle.index_core.specs.Fields.{Stored}

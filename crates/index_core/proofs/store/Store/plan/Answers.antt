@@ -1,6 +1,6 @@
 -- The sizes of the slots are those of the pieces.
-use Rattle.std.proofs.Common.{◌≡◌, ◌∙◌, List, ℕ, map, sym, ap, subst}
-use Rattle.std.specs.Prelude.{IfOk, option_map, filter}
+use Rattle.std.proofs.Common.{◌≡◌, ◌∙◌, List, map, sym, ap, subst}
+use Rattle.std.specs.Prelude.{IfOk, option_map}
 use Rattle.std.specs.List.{filter_map, flat_map, AllByRecursion}
 use Rattle.std.specs.List.Sorted.{IsStrictlyIncreasing}
 use Rattle.merge_plan.specs.declared.size.Size.{Size}
