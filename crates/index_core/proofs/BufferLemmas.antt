@@ -58,7 +58,6 @@ fields_accept k caller operation fields room enough =
       frozen_operations = fields.frozen_operations;
       drawn_generations = ap (λ (gs : List ℕ). length gs)
           (skips drawn_generation k.history event refl) ∙ fields.drawn_generations;
-      few_drawn = fields.few_drawn;
       most_operations = omega (arith, room, length-append k.buffer (operation ∷ []));
       views = same_views fields.views event refl refl;
       own_lists = same_lists fields.own_lists event refl refl (λ n. refl) refl;
@@ -191,7 +190,6 @@ fields_freeze k caller fields some enough =
           (filter_map-append drawn_generation k.history (event ∷ []))
           ∙ length-append (drawn k.history) ((k.drawn_count + 1) ∷ [])
           ∙ ap (λ (n : ℕ). n + 1) fields.drawn_generations;
-      few_drawn = omega (arith, fields.few_drawn, some);
       most_operations = omega (arith, fields.most_operations);
       views = same_views fields.views event refl refl;
       own_lists = same_lists fields.own_lists event refl refl (λ n. refl) refl;

@@ -126,7 +126,6 @@ builds {k} kept caller g documents is all enough =
             plain = plain_after r e plain refl refl refl
                 (merges_still r e plain.merges (λ n. refl) refl refl tt refl refl) more;
             drawn_count = same_drawn k e kept.fields refl;
-            few_drawn = kept.fields.few_drawn;
             pieces = built_keeps r plain caller g k.pieces kept.pieces documents all;
             held = held_quiet r e r.journal k.held (quiet_built caller g) kept.held;
             views = same_views kept.fields.views e refl refl;
@@ -159,7 +158,6 @@ lives {k} kept caller g upto live_docs is within all enough =
                 (merges_still r e plain.merges (λ n. refl) refl refl tt refl refl)
                 (builds_nothing k e plain refl);
             drawn_count = same_drawn k e kept.fields refl;
-            few_drawn = kept.fields.few_drawn;
             pieces =
                 lived_keeps r plain caller g upto k.pieces kept.pieces live_docs more.0 within all;
             held = held_quiet r e r.journal k.held (quiet_lived caller g upto) kept.held;

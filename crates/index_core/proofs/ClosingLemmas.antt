@@ -1,7 +1,7 @@
 -- What the calls that close a merge ask of the store, and what they leave.
-use Rattle.std.proofs.Common.{◌≡◌, ◌≤◌, ◌<◌, ◌+◌, ℕ, Bool, true, false, Option, Some, None, List}
+use Rattle.std.proofs.Common.{◌≡◌, ◌≤◌, ◌<◌, ◌+◌, ℕ, false, Some, None, List}
 use Rattle.std.proofs.Common.{[]}
-use Rattle.std.proofs.Common.{◌∷◌, ◌++◌, length, refl, sym, ap, ◌∙◌, subst, arith}
+use Rattle.std.proofs.Common.{◌∷◌, length, refl, sym, ap, ◌∙◌, subst, arith}
 use Rattle.std.specs.Prelude.{All, Contains}
 use Rattle.std.specs.List.{filter_map}
 use Rattle.std.specs.List.Sorted.{IsStrictlyIncreasing}
@@ -9,8 +9,7 @@ use Rattle.sg_paths.specs.Operations.{PlainNumbered}
 use Rattle.segment.specs.Views.{PlainParts}
 use Rattle.index_holds.specs.Holders.{is_held, after_retire, given_up, HasHolder, IsCurrentAndHeld}
 use Rattle.merge_work.specs.Merging.{unless_empty}
-use Rattle.index_core.specs.declared.limits.TheConstants.{MOST_GENERATIONS}
-use Rattle.index_core.specs.Histories.{HistoryEvent, merge_end, merge_drop, Record, Merge}
+use Rattle.index_core.specs.Histories.{HistoryEvent, merge_drop, Record, Merge}
 use Rattle.index_core.specs.Histories.{begun_view, ended_view, closed_merge, merges_from}
 use Rattle.index_core.specs.Records.{with_event, open_views, open_merges}
 use Rattle.index_core.specs.LegalHistories.{merged_documents}
@@ -22,10 +21,9 @@ use Rattle.index_core.specs.Fields.{bringing}
 use Rattle.index_core.proofs.ViewLemmas.{open_views-skip}
 use Rattle.index_core.proofs.OpenMergeLemmas.{open_merges-close}
 use Rattle.index_core.proofs.GivenUpLemmas.{few_retired}
-use Rattle.index_core.proofs.KeptLemmas.{Leaves}
 use Rattle.index_core.proofs.CommittingLemmas.{some_merging, merge_rises, merge_has_list}
-use Rattle.index_core.proofs.CommittingLemmas.{drop_holds, drops, none_holds, retires, some_holds}
-use Rattle.index_core.proofs.CommittingLemmas.{some_new, few_to_bring, brings, unless_some}
+use Rattle.index_core.proofs.CommittingLemmas.{drop_holds, drops, none_holds, retires}
+use Rattle.index_core.proofs.CommittingLemmas.{some_new, brings, unless_some}
 use Rattle.index_core.proofs.CommittingLemmas.{unless_none, none_is, some_is}
 
 -- what such a call leaves: the record afterwards, one open merge fewer, and the same open views
@@ -94,9 +92,6 @@ module _ {k : Stored} (kept : IsKept k) (now : Record) (caller : ℕ) (parts : P
     asks_new gens is =
         subst (λ (gs : List ℕ). is_held (after_retire gs k.held) (k.drawn_count + 1) ≡ false)
         (sym is) (some_new kept caller m there refl)
-
-    pub asks_generation : k.drawn_count < MOST_GENERATIONS
-    asks_generation = few_to_bring kept caller m there refl
 
     -- ---- what is left
 

@@ -12,7 +12,6 @@ use Rattle.sg_paths.specs.Operations.{PlainNumbered}
 use Rattle.merge_work.specs.Merging.{unless_empty}
 use Rattle.index_holds.specs.Holders.{is_held, with_current, with_holder, after_release}
 use Rattle.index_holds.specs.Holders.{after_retire, given_up, HasRoom}
-use Rattle.index_core.specs.declared.limits.TheConstants.{MOST_OPERATIONS, MOST_GENERATIONS}
 use Rattle.index_core.specs.Histories.{HistoryEvent, merge_begin, merge_end, merge_drop, Record}
 use Rattle.index_core.specs.Histories.{Merge, is_among, closed_merge, drawn, drawn_generation}
 use Rattle.index_core.specs.Histories.{open_merges}
@@ -75,10 +74,9 @@ may_merge {k} kept gens plan =
 
 pub merges : {k : Stored} → IsKept k → (caller : ℕ) (gens : List ℕ)
     → merge_plan (record_of k) ≡ Some gens
-    → k.drawn_count + k.lists.merges_open + MOST_OPERATIONS < MOST_GENERATIONS + k.frozen_count
     → length k.history + 2 + k.open_count + k.lists.merges_open ≤ k.places
     → Leaves (merging caller gens k) (after_begin_merge caller (record_of k))
-merges {k} kept caller gens plan numbers enough =
+merges {k} kept caller gens plan enough =
     let r = record_of k in
     let plain = kept.plain in
     let are = plain.merges in
@@ -101,7 +99,6 @@ merges {k} kept caller gens plan numbers enough =
                 (merges_begin r caller gens are is.in_use is.free is.rising once)
                 (builds_nothing k e plain refl));
             drawn_count = same_drawn k event kept.fields refl;
-            few_drawn = omega (arith, numbers);
             pieces = subst (λ (x : Record). AreCurrent x k.pieces) same
                 (merges_keep.leaves r e k.pieces (known r are)
                 (merges_keep.begins r caller gens (next_not_ended r are)) kept.pieces);
@@ -171,7 +168,6 @@ module _ {k : Stored} (kept : IsKept k) (caller : ℕ) (m : Merge)
                   (one_same r e-drop (known r are) tt refl same are.once))
                   (builds_nothing k e-drop kept.plain refl);
               drawn_count = same_drawn k e-drop kept.fields refl;
-              few_drawn = omega (arith, kept.fields.few_drawn);
               pieces = merges_keep.leaves r e-drop k.pieces (known r are)
                   (merges_keep.drops r caller m.merge) kept.pieces;
               held = drop_holds.held;
@@ -236,7 +232,6 @@ module _ {k : Stored} (kept : IsKept k) (caller : ℕ) (m : Merge)
                   (one_none r caller m into gone ending))
                   (builds_nothing k e-none kept.plain refl);
               drawn_count = same_drawn k e-none kept.fields refl;
-              few_drawn = omega (arith, kept.fields.few_drawn);
               pieces =
                   merges_keep.ends_empty r caller m into gone k.pieces ending none kept.pieces;
               held = (held_none r caller m gone k.held may kept.held).1;
@@ -267,10 +262,6 @@ module _ {k : Stored} (kept : IsKept k) (caller : ℕ) (m : Merge)
 
   pub some_new : is_held (after_retire m.generations k.held) into ≡ false
   some_new = (held_some r caller m into [] k.held may below kept.held).1
-
-  pub few_to_bring : k.drawn_count < MOST_GENERATIONS
-  few_to_bring =
-      omega (arith, kept.fields.few_drawn, kept.fields.most_operations, some_merging)
 
   pub brings : (documents : List PlainNumbered) → documents ≡ merged_documents r m
       → 0 < length documents
@@ -309,7 +300,6 @@ module _ {k : Stored} (kept : IsKept k) (caller : ℕ) (m : Merge)
                   (filter_map-append drawn_generation k.history (e-some ∷ []))
                   ∙ length-append (drawn k.history) (into ∷ [])
                   ∙ ap (λ (n : ℕ). n + 1) kept.fields.drawn_generations;
-              few_drawn = omega (arith, kept.fields.few_drawn, some_merging);
               pieces = merges_keep.ends r caller m into gone documents k.pieces ending are-they
                   kept.pieces;
               held = (held_some r caller m into gone k.held may below kept.held).2;

@@ -133,7 +133,6 @@ ends {k} kept caller view v is =
                 (merges_still r event plain.merges (λ n. refl) refl refl tt refl refl)
                 (builds_nothing k event plain refl);
             drawn_count = same_drawn k event kept.fields refl;
-            few_drawn = kept.fields.few_drawn;
             pieces = leaves r event k.pieces (known r plain.merges)
                 (end_leaves r caller view gone) kept.pieces;
             held = subst (λ (n : ℕ). AreHeld (with_event r (view_end caller n gone)) after)

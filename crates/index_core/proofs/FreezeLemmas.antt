@@ -115,7 +115,7 @@ module _ (r : Record) (plain : IsPlain r) (were : AreDrawn r) (caller : ℕ)
   new_held true gens out = among_itself g gens
   new_held false gens out = out
 
-  documents-freeze : documents_of r-freeze g ≡ documents_from (n + 1) (drop n r.journal)
+  pub documents-freeze : documents_of r-freeze g ≡ documents_from (n + 1) (drop n r.journal)
   documents-freeze =
       filter_agree (λ d. is_among g (holders_of r-freeze d))
       (λ d. nat_le (n + 1) d.seq && nat_le d.seq u)
@@ -149,7 +149,7 @@ module _ (r : Record) (plain : IsPlain r) (were : AreDrawn r) (caller : ℕ)
       let other : nat_eq g x ≡ false = grind (arith, nat_tests, less) in
       rw other (not_among xs all.1)
 
-  current-more : current r-freeze ≡ current r ++ g ∷ []
+  pub current-more : current r-freeze ≡ current r ++ g ∷ []
   current-more =
       current-freeze r caller g (n + 1) u
       (undrawn_not_replaced r were g (not_among (drawn r) plain.drawn_before))

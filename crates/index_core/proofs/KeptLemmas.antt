@@ -7,8 +7,7 @@ use Rattle.std.proofs.lemmas.List.{length-append}
 use Rattle.segment.specs.Pieces.{PlainPiece}
 use Rattle.index_holds.specs.declared.held.Held.{Held}
 use Rattle.index_holds.specs.Holders.{is_held}
-use Rattle.index_core.specs.declared.limits.TheConstants.{BATCH_OPERATIONS, MOST_OPERATIONS}
-use Rattle.index_core.specs.declared.limits.TheConstants.{MOST_GENERATIONS}
+use Rattle.index_core.specs.declared.limits.TheConstants.{BATCH_OPERATIONS}
 use Rattle.index_core.specs.Histories.{accept, built, live_docs_updated}
 use Rattle.index_core.specs.Histories.{HistoryEvent, Record, View, Merge, accepted, accepted_number}
 use Rattle.index_core.specs.Histories.{frozen_upto, drawn_generation, built_generation, drawn}
@@ -46,14 +45,6 @@ pub buffered_is : (k : Stored) → length (record_of k).journal ≡ accepted k.h
 buffered_is k numbered fields =
     omega (arith, counted k numbered fields, fields.frozen_upto_last)
 
--- so many generations were drawn, and so many merges are open at most
-pub few_generations : (k : Stored) → AreFields k
-    → (k.drawn_count ≤ MOST_GENERATIONS) × (k.lists.merges_open ≤ MOST_GENERATIONS)
-few_generations k fields = (
-  omega (arith, fields.few_drawn, fields.most_operations),
-  omega (arith, fields.few_drawn, fields.most_operations),
-)
-
 -- neither room nor closing changes a fact
 pub with_all_room : {k : Stored} → IsKept k → (closed : Bool) (places views merges : ℕ)
     → k.places ≤ places
@@ -68,7 +59,6 @@ with_all_room {k} kept closed places views merges more =
         frozen_upto_last = fields.frozen_upto_last;
         frozen_operations = fields.frozen_operations;
         drawn_generations = fields.drawn_generations;
-        few_drawn = fields.few_drawn;
         most_operations = fields.most_operations;
         views = fields.views;
         own_lists = record {
@@ -186,8 +176,6 @@ pub record Changes (k : Stored) (event : HistoryEvent) (new_pieces : List PlainP
   pub no_freeze : frozen_upto event ≡ None
   pub plain : IsPlain (with_event (record_of k) event)
   pub drawn_count : length (drawn (k.history ++ event ∷ [])) ≡ new_drawn
-  pub few_drawn : new_drawn + new_lists.merges_open + MOST_OPERATIONS
-      ≤ MOST_GENERATIONS + k.frozen_count
   pub pieces : AreCurrent (with_event (record_of k) event) new_pieces
   pub held : AreHeld (with_event (record_of k) event) new_held
   pub views : AreViews (k.history ++ event ∷ []) begun opened
@@ -209,7 +197,6 @@ kept_changed {k} kept event pieces held lists drawn_count begun opened is =
         frozen_upto_last = frozen-skip k.history event is.no_freeze ∙ fields.frozen_upto_last;
         frozen_operations = fields.frozen_operations;
         drawn_generations = is.drawn_count;
-        few_drawn = is.few_drawn;
         most_operations = fields.most_operations;
         views = is.views;
         own_lists = is.own_lists;

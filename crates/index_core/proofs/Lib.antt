@@ -58,3 +58,7 @@ pub mod SoundDrawLemmas
 pub mod SoundRecordLemmas
 pub mod ForeverLemmas
 pub mod MergePartsLemmas
+pub mod PaidLemmas
+pub mod PlannedPaysLemmas
+pub mod PaidRecordLemmas
+pub mod FewLemmas

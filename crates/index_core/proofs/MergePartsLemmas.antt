@@ -1,5 +1,5 @@
 -- What a store shares for a merge that has begun are the parts of the merge.
-use Rattle.std.proofs.Common.{◌≡◌, ◌≤◌, ◌<◌, ◌+◌, ℕ, Bool, true, false, cond, Option, Some, List}
+use Rattle.std.proofs.Common.{◌≡◌, ◌≤◌, ◌+◌, ℕ, Bool, true, false, cond, Option, Some, List}
 use Rattle.std.proofs.Common.{[]}
 use Rattle.std.proofs.Common.{◌∷◌, ◌++◌, length, map, drop, refl, sym, ap, ◌∙◌, subst}
 use Rattle.std.specs.Prelude.{filter, Contains, option_map}
@@ -9,7 +9,6 @@ use Rattle.sg_paths.specs.Operations.{PlainBatch}
 use Rattle.segment.specs.Pieces.{PlainPiece}
 use Rattle.segment.specs.Views.{PlainParts, AreCovered}
 use Rattle.merge_work.specs.Merging.{AreMergeable}
-use Rattle.index_core.specs.declared.limits.TheConstants.{MOST_OPERATIONS, MOST_GENERATIONS}
 use Rattle.index_core.specs.Histories.{HistoryEvent, merge_begin, Record, Merge, is_among}
 use Rattle.index_core.specs.Histories.{closed_merge}
 use Rattle.index_core.specs.Records.{frozen, current, next_merge, open_merges}
@@ -171,16 +170,14 @@ module _ {k : Stored} (kept : IsKept k) (caller : ℕ) (gens : List ℕ) (parts 
 
 pub begins_merge : {k : Stored} → IsKept k → (caller : ℕ) (gens : List ℕ) (parts : PlainParts)
     → merge_plan (record_of k) ≡ Some gens → AreSizesWithin (record_of k)
-    → k.drawn_count + k.lists.merges_open + MOST_OPERATIONS < MOST_GENERATIONS + k.frozen_count
     → length k.history + 2 + k.open_count + k.lists.merges_open ≤ k.places
     → parts.number ≡ k.lists.merges_begun + 1 → parts.upto ≡ k.frozen_count
     → parts.pieces ≡ sources gens k.pieces
     → parts.batches ≡ drop (known_batches (least_applied parts.upto (sources gens k.pieces))
     k.batches) k.batches
     → parts.generations ≡ gens → BeginsMerge k caller gens parts
-begins_merge {k} kept caller gens parts plan within numbers enough number upto pieces batches
-    generations =
-    let left = merges kept caller gens plan numbers enough in
+begins_merge {k} kept caller gens parts plan within enough number upto pieces batches generations =
+    let left = merges kept caller gens plan enough in
     record {
       left = left;
       merge = is_next kept caller gens parts plan number upto pieces generations;

@@ -155,10 +155,10 @@ module _ (r : Record) (m : Merge) (into : ℕ) (ending : IsEnding r m into)
   pub current_rises : RisesFrom 1 (current r)
   current_rises = subst (λ (gs : List ℕ). RisesFrom 1 gs) are.generations are.rising
 
-  own : filter (λ g. is_among g m.generations) (current r) ≡ m.generations
+  pub own : filter (λ g. is_among g m.generations) (current r) ≡ m.generations
   own = own_generations r m.generations 1 current_rises ending.rising ending.in_use
 
-  one_holds : AllByRecursion (λ d. OneHolds r d m.generations) (documents_from 1 r.journal)
+  pub one_holds : AllByRecursion (λ d. OneHolds r d m.generations) (documents_from 1 r.journal)
   one_holds =
       all_weaker (λ d. holding r d (current r) ≤ 1) (λ d. OneHolds r d m.generations)
       (λ d most. subst (λ (gs : List ℕ). OneHolds r d gs) own

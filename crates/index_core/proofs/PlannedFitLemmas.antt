@@ -23,7 +23,7 @@ use Rattle.index_core.proofs.ListLemmas.{all_weaker}
 use Rattle.index_core.proofs.MergedPieceLemmas.{fewer_pass, own_generations}
 use Rattle.index_core.proofs.PlannedLemmas.{AreChosen, IsFree, choice, sizes_planned}
 
--- ---- sums over the documents of generations
+-- ---- sums over what passes tests, as the documents of generations
 
 none_split : (n : ℕ) → 0 ≡ 0 * n + 0
 none_split n = omega arith
@@ -31,8 +31,8 @@ none_split n = omega arith
 times : (k n : ℕ) → suc k * n ≡ n + k * n
 times k n = grind arith
 
-pub sum_split : (f : PlainNumbered → ℕ) (p : ℕ → PlainNumbered → Bool) (d : PlainNumbered)
-    (ds : List PlainNumbered) (gens : List ℕ)
+pub sum_split : {G X : Type 0} (f : X → ℕ) (p : G → X → Bool) (d : X) (ds : List X)
+    (gens : List G)
     → sum_by f (flat_map (λ g. filter (p g) (d ∷ ds)) gens)
     ≡ length (filter (λ g. p g d) gens) * f d + sum_by f (flat_map (λ g. filter (p g) ds) gens)
 sum_split f p d ds [] = none_split (f d)
@@ -62,14 +62,13 @@ at_most_once zero n h = omega arith
 at_most_once (suc zero) n h = omega arith
 at_most_once (suc (suc k)) n h = absurd (omega (arith, h))
 
-none_of_none : (f : PlainNumbered → ℕ) (p : ℕ → PlainNumbered → Bool) (gens : List ℕ)
+none_of_none : {G X : Type 0} (f : X → ℕ) (p : G → X → Bool) (gens : List G)
     → sum_by f (flat_map (λ g. filter (p g) []) gens) ≡ 0
 none_of_none f p [] = refl
 none_of_none f p (g ∷ gs) = none_of_none f p gs
 
 -- where each passes one test at most, no more than the sum over all
-sum_at_most : (f : PlainNumbered → ℕ) (p : ℕ → PlainNumbered → Bool) (gens : List ℕ)
-    (ds : List PlainNumbered)
+pub sum_at_most : {G X : Type 0} (f : X → ℕ) (p : G → X → Bool) (gens : List G) (ds : List X)
     → AllByRecursion (λ d. length (filter (λ g. p g d) gens) ≤ 1) ds
     → sum_by f (flat_map (λ g. filter (p g) ds) gens) ≤ sum_by f ds
 sum_at_most f p gens [] all = let none = none_of_none f p gens in omega (arith, none)

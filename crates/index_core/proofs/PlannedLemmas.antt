@@ -1,6 +1,6 @@
 -- What the merge plan gives: sizes of free generations, rising, with their limits.
-use Rattle.std.proofs.Common.{◌≡◌, ◌≤◌, ◌+◌, ◌-◌, ℕ, zero, suc, Bool, true, false, cond, not}
-use Rattle.std.proofs.Common.{nat_eq, ◌&&◌, ◌||◌, Option, Some, None, List, [], ◌∷◌}
+use Rattle.std.proofs.Common.{◌≡◌, ◌≤◌, ◌<◌, ◌+◌, ◌-◌, ℕ, zero, suc, Bool, true, false, cond, not}
+use Rattle.std.proofs.Common.{nat_eq, ◌&&◌, ◌||◌, ◌⊎◌, inl, inr, Option, Some, None, List, [], ◌∷◌}
 use Rattle.std.proofs.Common.{length, map, take, refl, sym, ap, ◌∙◌, subst, arith}
 use Rattle.std.specs.Prelude.{filter, find, nat_le, nat_lt, option_map, sum_by}
 use Rattle.std.specs.List.{AllByRecursion, list_any}
@@ -101,11 +101,13 @@ module _ (P : Size → Type 0) where
 
 -- ---- what is planned
 
--- sizes that the plan chooses: one to ten, and together within a segment's limits where each is
+-- sizes that the plan chooses: one to ten, where one alone has documents that are deleted, and
+-- together within a segment's limits where each is
 pub record AreChosen (P : Size → Type 0) (ss : List Size) : Type 0 where
   pub are : AreSizes P ss
   pub some : 1 ≤ length ss
   pub few : length ss ≤ 10
+  pub saves : (2 ≤ length ss) ⊎ ((s : Size) × (ss ≡ s ∷ []) × (s.live < s.documents))
   pub within : AllByRecursion IsWithinSegment ss
       → (sum_by (λ s. s.documents) ss ≤ MOST_SEGMENT_DOCUMENTS)
       × (sum_by (λ s. s.paths) ss ≤ MOST_SEGMENT_PATHS)
@@ -118,6 +120,9 @@ full_parts false b c e = let no : false ≡ true = e in absurd cc
 
 at_most : (m n : ℕ) → nat_le m n ≡ true → m ≤ n
 at_most m n is = grind (arith, nat_tests)
+
+fewer_live : (s : Size) → nat_lt s.live (s.documents - s.live) ≡ true → s.live < s.documents
+fewer_live s is = grind (arith, nat_tests)
 
 same_number : (m n : ℕ) → nat_eq m n ≡ true → m ≡ n
 same_number m n is = grind (arith, nat_tests)
@@ -133,17 +138,19 @@ module _ (P : Size → Type 0) where
         are = are;
         some = omega (arith, ten);
         few = omega (arith, ten);
+        saves = inl (omega (arith, ten));
         within = λ all. (
           at_most (sum_by (λ s. s.documents) ss) MOST_SEGMENT_DOCUMENTS parts.1,
           at_most (sum_by (λ s. s.paths) ss) MOST_SEGMENT_PATHS parts.2,
         );
       }
 
-  one_chosen : (s : Size) → P s → AreChosen P (s ∷ [])
-  one_chosen s is = record {
+  one_chosen : (s : Size) → P s → s.live < s.documents → AreChosen P (s ∷ [])
+  one_chosen s is less = record {
     are = record { each = (is, tt); rising = (omega arith, tt) };
     some = omega arith;
     few = omega arith;
+    saves = inr (s, refl, less);
     within = λ all. (
       (let sum = sum_by-cons (λ (x : Size). x.documents) s [] in let most = all.0.0 in
           omega (arith, sum, most)),
@@ -152,12 +159,14 @@ module _ (P : Size → Type 0) where
     );
   }
 
-  alone_chosen : (o : Option Size) (chosen : List Size) → ((s : Size) → o ≡ Some s → P s)
+  alone_chosen : (o : Option Size) (chosen : List Size)
+      → ((s : Size) → o ≡ Some s → P s × (s.live < s.documents))
       → option_map (λ s. s ∷ []) o ≡ Some chosen → AreChosen P chosen
   alone_chosen None chosen each is = let no : None ≡ Some chosen = is in absurd cc
   alone_chosen (Some s) chosen each is =
       let same : s ∷ [] ≡ chosen = cc in
-      subst (λ (xs : List Size). AreChosen P xs) same (one_chosen s (each s refl))
+      let got = each s refl in
+      subst (λ (xs : List Size). AreChosen P xs) same (one_chosen s got.0 got.1)
 
   first_chosen : (a b : Option (List Size)) (chosen : List Size)
       → ((xs : List Size) → a ≡ Some xs → AreChosen P xs)
@@ -177,8 +186,9 @@ module _ (P : Size → Type 0) where
       (sizes_levels P free levels own) e in
       full_chosen xs there.1 there.0)
       (λ xs e. alone_chosen (find (λ s. nat_lt s.live (s.documents - s.live)) free) xs
-      (λ s there. (found (λ x. nat_lt x.live (x.documents - x.live)) P free s own.each
-      there).1) e)
+      (λ s there.
+      let got = found (λ x. nat_lt x.live (x.documents - x.live)) P free s own.each there in
+      (got.1, fewer_live s got.0)) e)
       is
 
 -- ---- sizes of a record

@@ -67,7 +67,7 @@ more_drawn r e g there =
 
 -- ---- views
 
-documents_same : (r s : Record) (gs : List ℕ)
+pub documents_same : (r s : Record) (gs : List ℕ)
     → ((g : ℕ) → is_among g (drawn r) ≡ true → documents_of s g ≡ documents_of r g)
     → WereDrawn r gs → flat_map (documents_of s) gs ≡ flat_map (documents_of r) gs
 documents_same r s [] same were = refl
@@ -75,18 +75,24 @@ documents_same r s (g ∷ gs) same were =
     ap (λ (ds : List PlainNumbered). ds ++ flat_map (documents_of s) gs) (same g were.0)
     ∙ ap (λ (ds : List PlainNumbered). documents_of r g ++ ds) (documents_same r s gs same were.1)
 
+-- what is live of drawn generations after operations that were accepted
+pub live_in_still : (r s : Record) (more : List PlainOp) (upto : ℕ) (gs : List ℕ)
+    → s.journal ≡ r.journal ++ more
+    → ((g : ℕ) → is_among g (drawn r) ≡ true → documents_of s g ≡ documents_of r g)
+    → WereDrawn r gs → upto ≤ length r.journal → live_in s upto gs ≡ live_in r upto gs
+live_in_still r s more n gs journal same were within =
+    ap (filter (λ d. not (is_deleted s.journal n d))) (documents_same r s gs same were)
+    ∙ filter_agree (λ d. not (is_deleted s.journal n d)) (λ d. not (is_deleted r.journal n d))
+    (λ d. ap (λ (ops : List PlainOp). not (is_deleted ops n d)) journal
+    ∙ ap not (deleted_stays r.journal more n d within)) (flat_map (documents_of r) gs)
+
 pub sees_still : (r s : Record) (more : List PlainOp) (v : View) → s.journal ≡ r.journal ++ more
     → ((g : ℕ) → is_among g (drawn r) ≡ true → documents_of s g ≡ documents_of r g)
     → WereDrawn r v.generations → SeesItsPrefix r v → SeesItsPrefix s v
 sees_still r s more v journal same were is =
     let n = v.upto in
     let filtered : live_in s n v.generations ≡ live_in r n v.generations =
-    ap (filter (λ d. not (is_deleted s.journal n d)))
-    (documents_same r s v.generations same were)
-    ∙ filter_agree (λ d. not (is_deleted s.journal n d)) (λ d. not (is_deleted r.journal n d))
-    (λ d. ap (λ (ops : List PlainOp). not (is_deleted ops n d)) journal
-    ∙ ap not (deleted_stays r.journal more n d is.within))
-    (flat_map (documents_of r) v.generations) in
+    live_in_still r s more n v.generations journal same were is.within in
     let whole : live_documents s.journal n ≡ live_documents r.journal n =
     ap (λ (ops : List PlainOp). live_documents ops n) journal
     ∙ live_stays r.journal more n is.within in

@@ -72,7 +72,7 @@ module _ (s : Record) (legal : IsLegal s) (k : ℕ) where
   r = first_events k s
 
   -- an event that accepts nothing
-  first_next : (e : HistoryEvent) → take (suc k) s.history ≡ take k s.history ++ e ∷ []
+  pub first_next : (e : HistoryEvent) → take (suc k) s.history ≡ take k s.history ++ e ∷ []
       → accepted_number e ≡ None → with_event r e ≡ first_events (suc k) s
   first_next e split none =
       let count : events.accepted (take (suc k) s.history)
@@ -88,7 +88,7 @@ module _ (s : Record) (legal : IsLegal s) (k : ℕ) where
       }) (sym count)
 
   -- the operation of the next event
-  first_accept : (caller seq : ℕ)
+  pub first_accept : (caller seq : ℕ)
       → take (suc k) s.history ≡ take k s.history ++ accept caller seq ∷ []
       → (op : PlainOp)
       × (record {
@@ -136,7 +136,7 @@ module _ (s : Record) (legal : IsLegal s) (k : ℕ) where
       }) (sym is) ∙ got.1)
       (sound_accept r caller got.0 sound (omega (arith, is, most)) less)
 
-  after_next : (e : HistoryEvent) → IsSound r → IsLegalNext r e
+  pub after_next : (e : HistoryEvent) → IsSound r → IsLegalNext r e
       → take (suc k) s.history ≡ take k s.history ++ e ∷ [] → IsAfter r (first_events (suc k) s)
   after_next (accept c q) sound next split = after_accept c q sound next split
   after_next (freeze c g f u) sound next split =

@@ -30,6 +30,7 @@ use Rattle.index_core.specs.Slots.{batched}
 use Rattle.index_core.specs.OwnLists.{with_view_list}
 use Rattle.index_core.specs.Fields.{freezing, freezing_all, all_pieces, all_batches, next_piece}
 use Rattle.index_core.specs.Fields.{next_batch, new_view, viewing}
+use Rattle.index_core.proofs.FewLemmas.{few_generations}
 use Rattle.index_core.proofs.HistoryLemmas.{skips}
 use Rattle.index_core.proofs.EventLemmas.{current-skip}
 use Rattle.index_core.proofs.ViewLemmas.{open_views-begin, is_among-over}
@@ -92,8 +93,7 @@ few_open {k} kept =
       fields.views.open_count,
       fields.views.most_open,
       fields.own_lists.merges_open,
-      fields.few_drawn,
-      fields.most_operations,
+      (few_generations kept).1,
     )
 
 -- the number of the next view isn't that of one that ended
@@ -162,7 +162,6 @@ kept_begin {k} kept caller none few enough =
           (merges_still r event plain.merges (λ n. refl) refl refl tt refl refl)
           (builds_nothing k event plain refl);
       drawn_count = same_drawn k event fields refl;
-      few_drawn = fields.few_drawn;
       pieces = leaves r event k.pieces (known r plain.merges) (begin_leaves r v) kept.pieces;
       held = (held_with kept caller).1;
       views = views_begin k caller fields few;
@@ -260,8 +259,7 @@ few_pieces {k} kept =
       all,
       fewer,
       kept.fields.drawn_generations,
-      kept.fields.few_drawn,
-      kept.fields.most_operations,
+      (few_generations kept).0,
     )
 
 -- what a kept store shares

@@ -13,7 +13,7 @@ use Rattle.index_holds.specs.Holders.{with_current, with_holder, after_release, 
 use Rattle.index_holds.specs.Holders.{given_up}
 use Rattle.merge_plan.specs.declared.size.Size.{Size}
 use Rattle.index_core.specs.declared.limits.TheConstants.{MOST_OPERATIONS, BATCH_OPERATIONS}
-use Rattle.index_core.specs.declared.limits.TheConstants.{MOST_OPEN_VIEWS, MOST_GENERATIONS}
+use Rattle.index_core.specs.declared.limits.TheConstants.{MOST_OPEN_VIEWS}
 use Rattle.index_core.specs.Histories.{HistoryEvent, accept, freeze, begin, built}
 use Rattle.index_core.specs.Histories.{live_docs_updated, merge_begin, merge_end, merge_drop}
 use Rattle.index_core.specs.Histories.{view_end, Record, View, frozen, drawn, begun_views}
@@ -293,15 +293,12 @@ pub record AreViews (history : List HistoryEvent) (begun opened : ℕ) : Type 0 
   pub open_count : length (open_views history) ≡ opened
   pub most_open : opened ≤ MOST_OPEN_VIEWS
 
--- what holds of the batches and the counts; there is a generation for each open merge and for each
--- operation that may come
+-- what holds of the batches and the counts
 pub record AreFields (k : Stored) : Type 0 where
   pub numbered : AreBatchesFrom 1 k.batches
   pub frozen_upto_last : frozen k.history ≡ k.frozen_count
   pub frozen_operations : length (batched k.batches) ≡ k.frozen_count
   pub drawn_generations : length (drawn k.history) ≡ k.drawn_count
-  pub few_drawn : k.drawn_count + k.lists.merges_open + MOST_OPERATIONS
-      ≤ MOST_GENERATIONS + k.frozen_count
   pub most_operations : k.frozen_count + length k.buffer ≤ MOST_OPERATIONS
   pub views : AreViews k.history k.begun_count k.open_count
   pub own_lists : AreLists k.history k.lists

@@ -1,13 +1,15 @@
 -- What holds of every legal record, whatever was frozen and merged. Source: Lucene's point-in-time
 -- readers, and its IndexFileDeleter.
-use Rattle.std.specs.Prelude.{◌≡◌, ◌≤◌, ℕ, true, false, not, List, ◌++◌, length, filter}
+use Rattle.std.specs.Prelude.{◌≡◌, ◌≤◌, ◌*◌, ℕ, true, false, not, List, ◌++◌, length, filter}
 use Rattle.std.specs.List.{AllByRecursion, flat_map}
 use Rattle.sg_paths.specs.Operations.{PlainOp, PlainNumbered, documents_from}
 use Rattle.sg_paths.specs.LiveDocuments.{is_deleted, live_documents}
 use Rattle.segment.specs.Items.{HaveSameItems}
 use Rattle.segment.specs.Views.{PlainParts, AreParts}
+use Rattle.index_core.specs.declared.limits.TheConstants.{MOST_OPERATIONS}
 use Rattle.index_core.specs.Histories.{HistoryEvent, Record, View, is_among, begun_views}
-use Rattle.index_core.specs.Records.{with_event, frozen, drawn, current, is_referenced, released}
+use Rattle.index_core.specs.Records.{with_event, frozen, drawn, current, open_merges}
+use Rattle.index_core.specs.Records.{is_referenced, released}
 use Rattle.index_core.specs.Generations.{documents_of}
 use Rattle.index_core.specs.LegalHistories.{first_events, IsLegal}
 use Rattle.index_core.specs.EndedMerges.{holding}
@@ -56,3 +58,10 @@ abbrev pub PartsStay : Type 0
 PartsStay =
     (journal more : List PlainOp) (parts : PlainParts) → AreParts journal parts
     → AreParts (journal ++ more) parts
+
+-- Generations don't run out, however often is merged: at most three are drawn for each operation
+-- that is frozen, and no more merges are open than generations are current.
+pub record GenerationsAreFew : Type 0 where
+  pub three_for_each : (r : Record) → IsLegal r → length (drawn r) ≤ 3 * frozen r
+  pub most : (r : Record) → IsLegal r → length (drawn r) ≤ 3 * MOST_OPERATIONS
+  pub merges : (r : Record) → IsLegal r → length (open_merges r) ≤ length (current r)

@@ -1,9 +1,9 @@
 //! Steps of the core that buffer operations and freeze them as batches.
-ghost use Rattle.std.specs.Prelude.{◌≡◌, ◌<◌, ◌≤◌, ◌+◌, true, false, nat_lt, IfErr, OnOk, OnErr};
-ghost use Rattle.std.specs.Prelude.{length};
+ghost use Rattle.std.specs.Prelude.{◌≡◌, ◌<◌, ◌≤◌, ◌+◌, ◌*◌, true, false, nat_lt, IfErr, OnOk};
+ghost use Rattle.std.specs.Prelude.{OnErr, length};
 ghost use Rattle.sg_paths.specs.Operations.{plain_op};
 ghost use Rattle.index_holds.specs.Holders.{is_held};
-ghost use Rattle.index_core.specs.declared.limits.TheConstants.{MOST_OPERATIONS, MOST_GENERATIONS};
+ghost use Rattle.index_core.specs.declared.limits.TheConstants.{MOST_OPERATIONS};
 ghost use Rattle.index_core.specs.Fields.{with_places, with_closed, accepting};
 ghost use Rattle.index_core.specs.Fields.{accepting_one, freezing, freezing_all};
 
@@ -21,7 +21,7 @@ impl Store {
     /// What is buffered is a batch, if anything is.
     pub(crate) fn close(&mut self) -> Result<(), AllocError>
         requires most { self.old.frozen_count + length self.old.buffer ≤ MOST_OPERATIONS }
-        requires few { self.old.lists.merges_open ≤ MOST_GENERATIONS }
+        requires few { self.old.lists.merges_open ≤ 3 * MOST_OPERATIONS }
         ensures ok { OnOk result (self.new.closed ≡ nat_lt 0 (length self.old.buffer)) }
         ensures same { self.new ≡ with_closed self.new.closed self.old }
     {
@@ -110,7 +110,7 @@ impl Store {
         requires closed { self.old.closed ≡ true }
         requires room { length self.old.history < self.old.places }
         requires most { self.old.frozen_count + length self.old.buffer ≤ MOST_OPERATIONS }
-        requires few { self.old.drawn_count ≤ MOST_GENERATIONS }
+        requires few { self.old.drawn_count ≤ 3 * MOST_OPERATIONS }
         requires new { is_held self.old.held (self.old.drawn_count + 1) ≡ false }
         ensures { self.new ≡ freezing caller self.old }
     {
@@ -144,7 +144,7 @@ impl Store {
     pub(crate) fn freeze_all(&mut self, caller: u32)
         requires room { length self.old.history < self.old.places }
         requires most { self.old.frozen_count + length self.old.buffer ≤ MOST_OPERATIONS }
-        requires few { self.old.drawn_count ≤ MOST_GENERATIONS }
+        requires few { self.old.drawn_count ≤ 3 * MOST_OPERATIONS }
         requires new { is_held self.old.held (self.old.drawn_count + 1) ≡ false }
         ensures { self.new ≡ freezing_all caller self.old }
     {
@@ -158,8 +158,8 @@ impl Store {
         requires closed { self.old.closed ≡ false }
         requires room { length self.old.history + 2 ≤ self.old.places }
         requires most { self.old.frozen_count + length self.old.buffer < MOST_OPERATIONS }
-        requires few { self.old.drawn_count ≤ MOST_GENERATIONS }
-        requires few_merges { self.old.lists.merges_open ≤ MOST_GENERATIONS }
+        requires few { self.old.drawn_count ≤ 3 * MOST_OPERATIONS }
+        requires few_merges { self.old.lists.merges_open ≤ 3 * MOST_OPERATIONS }
         requires new { is_held self.old.held (self.old.drawn_count + 1) ≡ false }
         ensures ok { OnOk result (self.new
             ≡ freezing caller (accepting caller (plain_op op) self.old)) }
@@ -203,8 +203,8 @@ impl Store {
         requires closed { self.old.closed ≡ false }
         requires room { length self.old.history + 2 ≤ self.old.places }
         requires most { self.old.frozen_count + length self.old.buffer < MOST_OPERATIONS }
-        requires few { self.old.drawn_count ≤ MOST_GENERATIONS }
-        requires few_merges { self.old.lists.merges_open ≤ MOST_GENERATIONS }
+        requires few { self.old.drawn_count ≤ 3 * MOST_OPERATIONS }
+        requires few_merges { self.old.lists.merges_open ≤ 3 * MOST_OPERATIONS }
         requires new { is_held self.old.held (self.old.drawn_count + 1) ≡ false }
         ensures ok { OnOk result (self.new ≡ accepting_one caller (plain_op op) self.old) }
         ensures returned { IfErr result (λ o. plain_op o ≡ plain_op op) }

@@ -29,10 +29,10 @@ pub use limits::{BATCH_OPERATIONS, MOST_OPEN_VIEWS, MOST_OPERATIONS, limits_are_
 pub use machine::Core;
 pub use merge_laws::{
     counts_follow_events, current_after_merge, current_generations_have_all, ended_merges_bring,
-    ended_views_release, generations_keep_their_documents, generations_stay, legal_is_known,
-    merged_by_number, merged_pieces_keep_live_documents, merges_keep_pieces, parts_stay,
-    planned_merges_can_be_worked, planned_merges_fit, released_stay_released, still_one_holds,
-    views_see_their_prefix, worked_merges_bring,
+    ended_views_release, generations_are_few, generations_keep_their_documents, generations_stay,
+    legal_is_known, merged_by_number, merged_pieces_keep_live_documents, merges_keep_pieces,
+    parts_stay, planned_merges_can_be_worked, planned_merges_fit, released_stay_released,
+    still_one_holds, views_see_their_prefix, worked_merges_bring,
 };
 pub use parts::CurrentParts;
 pub use refusal::{Refused, ViewError, Why};

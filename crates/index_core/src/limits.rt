@@ -10,10 +10,6 @@ pub const BATCH_OPERATIONS: usize = 16_384;
 /// The most views that are open at one time.
 pub const MOST_OPEN_VIEWS: u32 = 256;
 
-/// The most generations that are drawn. A merge isn't begun where its generation, those of open
-/// merges, and one for each operation that may come wouldn't fit.
-pub(crate) const MOST_GENERATIONS: u32 = 2_147_483_648;
-
 /// Each limit is the number that is documented.
 pub fn limits_are_exact()
     ensures { AreLimits }

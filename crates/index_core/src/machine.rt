@@ -279,7 +279,7 @@ impl Core {
     /// Begins the merge that is planned: one shared owner a piece, over what is frozen. `None`
     /// where none is, without an event. Sorts the generations of open merges, looks each current
     /// one up among them, and goes ten times over the sizes. Reserves what the end of the merge
-    /// takes. An error is want of memory, or of a generation below 2^31, which no run comes to.
+    /// takes. An error is want of memory.
     pub fn begin_merge(&mut self, caller: u32) -> Result<Option<MergeParts>, AllocError>
         // The merge.
         ensures merge { IfOk result (λ found.

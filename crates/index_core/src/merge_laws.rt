@@ -5,7 +5,8 @@ ghost use Rattle.index_core.specs.EndedMerges.{MergedPiecesKeepLiveDocuments, St
 ghost use Rattle.index_core.specs.HeldEvents.{CountsFollowEvents};
 ghost use Rattle.index_core.specs.HeldGenerations.{EndedViewsRelease};
 ghost use Rattle.index_core.specs.LegalLaws.{CurrentGenerationsHaveAll};
-ghost use Rattle.index_core.specs.LegalLaws.{GenerationsKeepTheirDocuments, PartsStay};
+ghost use Rattle.index_core.specs.LegalLaws.{GenerationsAreFew, GenerationsKeepTheirDocuments};
+ghost use Rattle.index_core.specs.LegalLaws.{PartsStay};
 ghost use Rattle.index_core.specs.LegalLaws.{ReleasedStayReleased, ViewsSeeTheirPrefix};
 ghost use Rattle.index_core.specs.MergedPieces.{MergesKeepPieces};
 ghost use Rattle.index_core.specs.PlannedMerges.{PlannedMergesFit};
@@ -89,6 +90,11 @@ pub fn current_generations_have_all()
 /// A generation holds what it held when it was drawn.
 pub fn generations_keep_their_documents()
     ensures { GenerationsKeepTheirDocuments }
+{}
+
+/// In a legal record generations are few, and so are open merges.
+pub fn generations_are_few()
+    ensures { GenerationsAreFew }
 {}
 
 /// What is released isn't referenced, and never again.

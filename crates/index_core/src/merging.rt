@@ -1,5 +1,5 @@
 //! Steps of the core that begin merges and end them.
-ghost use Rattle.std.specs.Prelude.{◌≡◌, ◌<◌, ◌≤◌, ◌+◌, false, nat_lt};
+ghost use Rattle.std.specs.Prelude.{◌≡◌, ◌<◌, ◌≤◌, ◌+◌, ◌*◌, false};
 ghost use Rattle.std.specs.Prelude.{IfOk, OnOk, OnErr, length, map, drop, All, option_map};
 ghost use Rattle.std.specs.Option.{IfSome};
 ghost use Rattle.std.specs.List.{AllByRecursion};
@@ -7,18 +7,17 @@ ghost use Rattle.std.specs.List.Sorted.{IsStrictlyIncreasing};
 ghost use Rattle.index_holds.specs.Holders.{is_held, HasRoom, HasHolder, IsCurrentAndHeld};
 ghost use Rattle.index_holds.specs.Holders.{after_retire, given_up};
 ghost use Rattle.merge_plan.specs.Merges.{plan};
-ghost use Rattle.index_core.specs.declared.limits.TheConstants.{MOST_OPERATIONS, MOST_GENERATIONS};
+ghost use Rattle.index_core.specs.declared.limits.TheConstants.{MOST_OPERATIONS};
 ghost use Rattle.index_core.specs.EndedMerges.{sources};
 ghost use Rattle.index_core.specs.HeldGenerations.{RisesFrom};
 ghost use Rattle.index_core.specs.Keeping.{least_applied, known_batches};
 ghost use Rattle.index_core.specs.PlannedMerges.{IsWithinSegment};
-ghost use Rattle.index_core.specs.Fields.{with_list_places, sizes_of};
 ghost use Rattle.index_core.specs.OwnLists.{list_of};
+ghost use Rattle.index_core.specs.Fields.{with_list_places, sizes_of};
 ghost use Rattle.index_core.specs.Fields.{merging, dropping, retiring, bringing};
 
 use crate::changing::remove_slots;
 use crate::event::Event;
-use crate::limits::{MOST_GENERATIONS, MOST_OPERATIONS};
 use crate::own_list::{OwnList, TwoLists, take_list, told_in, two_lists};
 use crate::sharing::{behind, known_batches, least_applied, shared_batches, shared_sources};
 use crate::sizing::{merged_generations, sizes_of};
@@ -73,34 +72,18 @@ impl Store {
         })
     }
 
-    /// Whether there is a generation for one merge more, beside those of open merges and of the
-    /// operations that may come.
-    fn has_generation(&self) -> bool
-        requires { self.now.frozen_count ≤ MOST_OPERATIONS }
-        ensures { result ≡ nat_lt (self.now.drawn_count + self.now.lists.merges_open
-            + MOST_OPERATIONS) (MOST_GENERATIONS + self.now.frozen_count) }
-    {
-        u64::from(self.drawn) + u64::from(self.merging) + MOST_OPERATIONS
-            < u64::from(MOST_GENERATIONS) + self.frozen
-    }
-
     /// Begins a merge of these generations, with places for what its end takes.
     pub(crate) fn merge(&mut self, caller: u32, gens: &[u32]) -> Result<(), AllocError>
         requires room { length self.old.history < self.old.places }
         requires begun { self.old.lists.merges_begun ≤ length self.old.history }
-        requires most { self.old.frozen_count ≤ MOST_OPERATIONS }
+        requires few { self.old.lists.merges_open ≤ 3 * MOST_OPERATIONS }
         requires rising { IsStrictlyIncreasing gens.now }
         requires holders { All (HasRoom self.old.held) gens.now }
         ensures ok { OnOk result (self.new ≡ merging caller gens.now
             (with_list_places self.old.lists.view_places self.new.lists.merge_places self.old)) }
-        ensures numbers { OnOk result (self.old.drawn_count + self.old.lists.merges_open
-            + MOST_OPERATIONS < MOST_GENERATIONS + self.old.frozen_count) }
         ensures err { OnErr result (self.new
             ≡ with_list_places self.old.lists.view_places self.new.lists.merge_places self.old) }
     {
-        if !self.has_generation() {
-            return Err(AllocError);
-        }
         // Places for what it brings, beside those of open merges and of a closed batch.
         self.slots.reserve(self.merging as usize + 2)?;
         self.holds.reserve(self.merging + 2)?;
@@ -174,7 +157,7 @@ impl Store {
     ) -> Freed
         requires some { 0 < self.old.lists.merges_open }
         requires room { length self.old.history < self.old.places }
-        requires few { self.old.drawn_count < MOST_GENERATIONS }
+        requires few { self.old.drawn_count ≤ 3 * MOST_OPERATIONS }
         requires own { list_of merge self.old.lists.merges ≡ gens.items }
         requires few_freed { length (given_up self.old.held
             (after_retire gens.items self.old.held)) ≤ length gens.items }

@@ -1,6 +1,6 @@
 //! The fields of the core. What a step on them does is one equation of plain data; steps stand in
 //! `freezing`, `viewing`, `building` and `merging`.
-ghost use Rattle.std.specs.Prelude.{◌≡◌, ◌≤◌, ◌+◌, OnOk, length, map};
+ghost use Rattle.std.specs.Prelude.{◌≡◌, ◌<◌, ◌≤◌, ◌+◌, ◌^◌, OnOk, length, map};
 ghost use Rattle.index_core.specs.declared.limits.TheConstants.{MOST_OPERATIONS};
 ghost use Rattle.index_core.specs.Histories.{event_of};
 ghost use Rattle.index_core.specs.Fields.{empty_store, with_places, with_list_places};
@@ -135,7 +135,8 @@ impl Store {
 
     /// How many events' places are reserved: one for the end of each open view and merge.
     pub(crate) fn reserved(&self) -> usize
-        ensures { result ≡ self.now.open_count + self.now.lists.merges_open }
+        ensures count { result ≡ self.now.open_count + self.now.lists.merges_open }
+        ensures most { result < 2 ^ 33 }
     {
         self.opened as usize + self.merging as usize
     }

@@ -1,9 +1,9 @@
 //! Steps of the core that share its pieces out, and begin and end views of them.
-ghost use Rattle.std.specs.Prelude.{◌≡◌, ◌<◌, ◌≤◌, ◌+◌, true, IfOk, OnOk, length, map, drop, All};
+ghost use Rattle.std.specs.Prelude.{◌≡◌, ◌<◌, ◌≤◌, ◌+◌, ◌*◌, true, IfOk, OnOk, length, map, drop};
+ghost use Rattle.std.specs.Prelude.{All};
 ghost use Rattle.std.specs.List.Sorted.{IsStrictlyIncreasing};
 ghost use Rattle.index_holds.specs.Holders.{HasRoom, HasHolder, after_release, given_up};
 ghost use Rattle.index_core.specs.declared.limits.TheConstants.{MOST_OPERATIONS, MOST_OPEN_VIEWS};
-ghost use Rattle.index_core.specs.declared.limits.TheConstants.{MOST_GENERATIONS};
 ghost use Rattle.index_core.specs.Keeping.{least_applied, known_batches};
 ghost use Rattle.index_core.specs.Fields.{all_pieces, all_batches, viewing, ending};
 ghost use Rattle.index_core.specs.Fields.{with_list_places};
@@ -27,7 +27,7 @@ impl Store {
     /// The parts of the view that begins next, where the closed batch is one of the pieces.
     pub(crate) fn share(&self) -> Result<ViewParts, AllocError>
         requires most { self.now.frozen_count + length self.now.buffer ≤ MOST_OPERATIONS }
-        requires few { self.now.drawn_count ≤ MOST_GENERATIONS }
+        requires few { self.now.drawn_count ≤ 3 * MOST_OPERATIONS }
         requires room { length self.now.history < self.now.places }
         requires begun { self.now.begun_count ≤ length self.now.history }
         requires some { self.now.closed ≡ true → 0 < length self.now.buffer }
@@ -55,7 +55,7 @@ impl Store {
     }
 
     fn share_pieces(&self) -> Result<Vec<Piece>, AllocError>
-        requires few { self.now.drawn_count ≤ MOST_GENERATIONS }
+        requires few { self.now.drawn_count ≤ 3 * MOST_OPERATIONS }
         requires most { self.now.frozen_count + length self.now.buffer ≤ MOST_OPERATIONS }
         ensures { IfOk result (λ v. v.items ≡ all_pieces self.now) }
     {

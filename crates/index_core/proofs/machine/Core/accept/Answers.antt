@@ -5,7 +5,8 @@ use Rattle.index_core.specs.Histories.{Record}
 use Rattle.index_core.specs.Records.{open_views}
 use Rattle.index_core.specs.Calls.{after_accept}
 use Rattle.index_core.specs.Fields.{Stored, IsKept, record_of}
-use Rattle.index_core.proofs.KeptLemmas.{with_room, Leaves, new_generation, few_generations}
+use Rattle.index_core.proofs.FewLemmas.{few_generations}
+use Rattle.index_core.proofs.KeptLemmas.{with_room, Leaves, new_generation}
 use Rattle.index_core.proofs.BufferLemmas.{accepts}
 use Rattle.index_core.proofs.ViewLemmas.{open_views-after_accept}
 use Rattle.index_core.proofs.machine.Core.accept.Goals as goal
@@ -31,7 +32,7 @@ left c =
     (accepts (with_room c.self.invariant c.make_room.new.self.closed c.make_room.new.self.places
     c.make_room.ensures.more) c.args.caller (plain_op c.args.op)
     (omega (arith, c.accepted-count.ensures))
-    (omega (arith, same, c.reserved-places.ensures, c.in-Ok.ensures.room)))
+    (omega (arith, same, c.reserved-places.ensures.count, c.in-Ok.ensures.room)))
 
 pub invariant_of-self-2 : goal.invariant_of-self-2
 invariant_of-self-2 c = (left c).kept
@@ -56,10 +57,10 @@ roomy c =
     c.make_room.ensures.more)
 
 pub accept-requires-clause-few : goal.accept-requires-clause-few
-accept-requires-clause-few c = (few_generations c.make_room.new.self (roomy c).fields).0
+accept-requires-clause-few c = (few_generations (roomy c)).0
 
 pub accept-requires-clause-few_merges : goal.accept-requires-clause-few_merges
-accept-requires-clause-few_merges c = (few_generations c.make_room.new.self (roomy c).fields).1
+accept-requires-clause-few_merges c = (few_generations (roomy c)).1
 
 pub accept-requires-clause-new : goal.accept-requires-clause-new
 accept-requires-clause-new c =

@@ -13,6 +13,7 @@ use Rattle.index_core.specs.Fields.{AreSizesWithin}
 use Rattle.index_core.proofs.ViewLemmas.{open_views-skip}
 use Rattle.index_core.proofs.KeptLemmas.{with_room, with_all_room}
 use Rattle.index_core.proofs.CommittingLemmas.{may_merge}
+use Rattle.index_core.proofs.FewLemmas.{few_generations}
 use Rattle.index_core.proofs.MergePartsLemmas.{BeginsMerge, begins_merge}
 use Rattle.index_core.proofs.machine.Core.begin_planned.Goals as goal
 
@@ -30,6 +31,9 @@ merge-requires-clause-holders c =
     (may_merge (roomy c) c.args.gens.items
     (ap (λ (r : Record). merge_plan r) (ap record_of c.reserve.ensures.same ∙ c.self.view_is)
     ∙ c.requires.plan))
+
+pub merge-requires-clause-few : goal.merge-requires-clause-few
+merge-requires-clause-few c = (few_generations (roomy c)).1
 
 -- the store with its places
 abbrev placed : (c : goal.In-Ok) → Stored
@@ -51,13 +55,13 @@ begun c =
     let same = ap (λ (s : Stored). length s.history) c.reserve.ensures.same in
     let opened = ap (λ (s : Stored). s.open_count) c.reserve.ensures.same in
     let merges = ap (λ (s : Stored). s.lists.merges_open) c.reserve.ensures.same in
-    let count = c.reserved-places.ensures in
+    let count = c.reserved-places.ensures.count in
     begins_merge
     (with_all_room kept c.reserve.new.self.closed c.reserve.new.self.places
     c.reserve.new.self.lists.view_places c.merge.new.self.lists.merge_places (omega arith))
     c.args.caller c.args.gens.items c.in_ok-parts.parts
     (ap (λ (r : Record). merge_plan r) (again c) ∙ c.requires.plan)
-    (subst AreSizesWithin (sym (again c)) c.requires.within) c.in-Ok.ensures.numbers
+    (subst AreSizesWithin (sym (again c)) c.requires.within)
     (omega (arith, same, opened, merges, count, c.in_ok-reserve.ensures.ok))
     e.number e.upto e.pieces e.batches e.gens
 

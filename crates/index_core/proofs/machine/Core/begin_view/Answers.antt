@@ -16,8 +16,9 @@ use Rattle.index_core.specs.OwnLists.{PlainLists}
 use Rattle.std.proofs.lemmas.List.Elements.{Contains-push}
 use Rattle.index_core.specs.Histories.{Record, View, open_views}
 use Rattle.index_core.specs.Calls.{after_freeze}
+use Rattle.index_core.proofs.FewLemmas.{few_generations}
 use Rattle.index_core.proofs.ViewLemmas.{open_views-after_freeze}
-use Rattle.index_core.proofs.KeptLemmas.{with_room, with_all_room, new_generation, few_generations}
+use Rattle.index_core.proofs.KeptLemmas.{with_room, with_all_room, new_generation}
 use Rattle.index_core.proofs.ViewingLemmas.{freezes_all, Frozen, begins, Begins, may_hold}
 use Rattle.index_core.proofs.machine.Core.begin_view.Goals as goal
 
@@ -90,7 +91,7 @@ frozen : (c : goal.After-begin-arg-1)
     → Frozen c.view_lists.new.self c.freeze_all.new.self c.args.caller
 frozen c =
     let e = same c in
-    let count = c.reserved-places.ensures in
+    let count = c.reserved-places.ensures.count in
     rw c.freeze_all.ensures
     (freezes_all (shut c) c.args.caller c.view_lists.new.self.closed refl
     (ap (λ (s : Stored). s.closed) (closed_is c) ∙ c.in_ok-close.ensures.ok
@@ -150,7 +151,7 @@ left c =
     let shut = c.close.new.self in
     let is = same c.before in
     let merges = ap (λ (ls : PlainLists). ls.merges_open) f.lists in
-    let count = c.reserved-places.ensures in
+    let count = c.reserved-places.ensures.count in
     let opened = c.opened-opened.ensures in
     rw c.begin.ensures
     (begins f.left.kept c.args.caller c.args.self.now c.in-Ok.lists.event.items parts
@@ -221,6 +222,13 @@ returns-clause-others c =
     ∙ (ap (λ (r : Record). open_views r.history) (frozen_is c.before)
     ∙ open_views-after_freeze c.args.caller c.args.self.now)
 
+pub close-requires-clause-few : goal.close-requires-clause-few
+close-requires-clause-few c = rw c.reserve.ensures.same (few_generations c.self.invariant).1
+
+pub share-requires-clause-few : goal.share-requires-clause-few
+share-requires-clause-few c =
+    rw (c.close.ensures.same, c.reserve.ensures.same) (few_generations c.self.invariant).0
+
 pub freeze_all-requires-clause-few : goal.freeze_all-requires-clause-few
 freeze_all-requires-clause-few c =
     let kept : IsKept c.view_lists.new.self =
@@ -232,7 +240,7 @@ freeze_all-requires-clause-few c =
     (with_all_room c.self.invariant c.close.new.self.closed c.reserve.new.self.places
     c.view_lists.new.self.lists.view_places c.close.new.self.lists.merge_places
     c.reserve.ensures.more) in
-    (few_generations c.view_lists.new.self kept.fields).0
+    (few_generations kept).0
 
 pub freeze_all-requires-clause-new : goal.freeze_all-requires-clause-new
 freeze_all-requires-clause-new c =

@@ -33,7 +33,7 @@ left c =
     let same = ap (λ (s : Stored). length s.history) c.reserve.ensures.same in
     let opened = ap (λ (s : Stored). s.open_count) c.reserve.ensures.same in
     let merges = ap (λ (s : Stored). s.lists.merges_open) c.reserve.ensures.same in
-    let count = c.reserved-places.ensures in
+    let count = c.reserved-places.ensures.count in
     rw c.build-done.ensures.store
     (builds_if (roomy c) c.args.caller c.args.generation c.args.segment.value
     (λ is. c.requires (ap (λ (r : Record). is_unbuilt r c.args.generation) (sym (again c)) ∙ is)

@@ -1,14 +1,13 @@
 -- The merge is one of the open ones, and what it brings is what it keeps.
-use Rattle.std.proofs.Common.{◌≡◌, ◌∙◌, ℕ, List, Some, None, sym, ap}
+use Rattle.std.proofs.Common.{◌≡◌, ◌∙◌, sym, ap}
 use Rattle.std.specs.Prelude.{option_map}
 use Rattle.segment.specs.Views.{PlainParts}
-use Rattle.merge_work.specs.Merging.{unless_empty}
 use Rattle.index_core.specs.Histories.{Record}
 use Rattle.index_core.specs.Records.{open_views, open_merges}
-use Rattle.index_core.specs.LegalHistories.{merged_documents}
 use Rattle.index_core.specs.MergeCalls.{merge_of, after_commit}
+use Rattle.index_core.proofs.FewLemmas.{few_generations}
 use Rattle.index_core.proofs.ClosingLemmas.{Closes, asks_rising, asks_list, asks_current, asks_few}
-use Rattle.index_core.proofs.ClosingLemmas.{asks_new, asks_generation, retired, retired_freed, came}
+use Rattle.index_core.proofs.ClosingLemmas.{asks_new, retired, retired_freed, came}
 use Rattle.index_core.proofs.ClosingLemmas.{came_freed}
 use Rattle.index_core.proofs.machine.Core.commit_merge.Goals as goal
 
@@ -22,6 +21,9 @@ bring-requires-clause-own c =
     asks_list c.self.invariant c.args.self.now c.args.caller c.args.parts c.self.view_is
     c.requires.open c.parts.inside.merge c.into_vec.result.items
     (ap (λ (p : PlainParts). p.number) c.parts.view_is) (gens_are c)
+
+pub bring-requires-clause-few : goal.bring-requires-clause-few
+bring-requires-clause-few c = (few_generations c.self.invariant).0
 
 pub bring-requires-clause-few_freed : goal.bring-requires-clause-few_freed
 bring-requires-clause-few_freed c =

@@ -34,7 +34,7 @@ left c =
     let same = ap (λ (s : Stored). length s.history) c.reserve.ensures.same in
     let opened = ap (λ (s : Stored). s.open_count) c.reserve.ensures.same in
     let merges = ap (λ (s : Stored). s.lists.merges_open) c.reserve.ensures.same in
-    let count = c.reserved-places.ensures in
+    let count = c.reserved-places.ensures.count in
     rw c.live-done.ensures.store
     (lives_if (roomy c) c.args.caller c.args.generation c.args.applied c.args.live.value
     (subst (λ (r : Record). c.args.applied ≤ frozen r) (sym (again c)) c.requires.within)

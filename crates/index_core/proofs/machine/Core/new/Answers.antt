@@ -17,7 +17,6 @@ kept places views merges = record {
     frozen_upto_last = refl;
     frozen_operations = refl;
     drawn_generations = refl;
-    few_drawn = omega arith;
     most_operations = omega arith;
     views = record {
       count = refl;

@@ -4,7 +4,8 @@ use Rattle.index_core.specs.Histories.{Record}
 use Rattle.index_core.specs.Records.{open_views}
 use Rattle.index_core.specs.Calls.{after_freeze}
 use Rattle.index_core.specs.Fields.{Stored, IsKept, record_of}
-use Rattle.index_core.proofs.KeptLemmas.{with_room, Leaves, new_generation, few_generations}
+use Rattle.index_core.proofs.FewLemmas.{few_generations}
+use Rattle.index_core.proofs.KeptLemmas.{with_room, Leaves, new_generation}
 use Rattle.index_core.proofs.BufferLemmas.{freezes}
 use Rattle.index_core.proofs.ViewLemmas.{open_views-after_freeze}
 use Rattle.index_core.proofs.machine.Core.seal.Goals as goal
@@ -21,10 +22,13 @@ invariant_of-self-in_err-close c =
     (with_room c.self.invariant c.close.new.self.closed c.reserve.new.self.places
     c.reserve.ensures.more)
 
+pub close-requires-clause-few : goal.close-requires-clause-few
+close-requires-clause-few c = rw c.reserve.ensures.same (few_generations c.self.invariant).1
+
 left : (c : goal.After-drawn)
     → Leaves c.freeze.new.self (after_freeze c.args.caller (record_of c.self.inside.store))
 left c =
-    let reserved = c.reserved-places.ensures in
+    let reserved = c.reserved-places.ensures.count in
     let frozen = c.frozen.ensures in
     let same = ap (λ (s : Stored). length s.history) c.reserve.ensures.same in
     let count = c.accepted.ensures in
@@ -53,7 +57,7 @@ roomy c =
     c.reserve.ensures.more)
 
 pub freeze-requires-clause-few : goal.freeze-requires-clause-few
-freeze-requires-clause-few c = (few_generations c.close.new.self (roomy c).fields).0
+freeze-requires-clause-few c = (few_generations (roomy c)).0
 
 pub freeze-requires-clause-new : goal.freeze-requires-clause-new
 freeze-requires-clause-new c =
