@@ -7,6 +7,7 @@ pub mod RangeLemmas
 pub mod BuiltLemmas
 pub mod AcceptLemmas
 pub mod FreezeLemmas
+pub mod NeededLemmas
 pub mod PartsLemmas
 pub mod KeptLemmas
 pub mod BufferLemmas

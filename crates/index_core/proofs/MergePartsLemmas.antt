@@ -13,7 +13,7 @@ use Rattle.index_core.specs.Histories.{HistoryEvent, merge_begin, Record, Merge,
 use Rattle.index_core.specs.Histories.{closed_merge}
 use Rattle.index_core.specs.Records.{frozen, current, next_merge, open_merges}
 use Rattle.index_core.specs.Merges.{merge_plan}
-use Rattle.index_core.specs.CurrentPieces.{IsPieceOf}
+use Rattle.index_core.specs.CurrentPieces.{IsPieceOf, AreNeeded}
 use Rattle.index_core.specs.MergeCalls.{merge_of, next_merge_by, merge_begun_by, after_begin_merge}
 use Rattle.index_core.specs.MergeCalls.{AreMergeOf}
 use Rattle.index_core.specs.EndedMerges.{sources}
@@ -29,6 +29,7 @@ use Rattle.index_core.proofs.MergeableLemmas.{mergeable}
 use Rattle.index_core.proofs.MergedPieceLemmas.{own_generations}
 use Rattle.index_core.proofs.MergesLemmas.{frozen_after-is}
 use Rattle.index_core.proofs.OpenMergeLemmas.{new_merge, open_merges-begin}
+use Rattle.index_core.proofs.NeededLemmas.{needed}
 use Rattle.index_core.proofs.PartsLemmas.{shared_parts, covered_are}
 use Rattle.index_core.proofs.ViewingLemmas.{shared}
 
@@ -166,6 +167,8 @@ module _ {k : Stored} (kept : IsKept k) (caller : ℕ) (gens : List ℕ) (parts 
             after.pieces.each));
         each = each_of s after.pieces.each;
         upto = sym upto-is;
+        needed = subst (λ (x : PlainParts). AreNeeded x.pieces x.batches) same
+            (needed (frozen s) qs k.batches (shared after).numbered (shared after).all_frozen);
       }
 
 pub begins_merge : {k : Stored} → IsKept k → (caller : ℕ) (gens : List ℕ) (parts : PlainParts)

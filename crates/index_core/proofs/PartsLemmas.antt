@@ -18,6 +18,7 @@ use Rattle.index_core.specs.CurrentPieces.{IsPieceOf, AreOf}
 use Rattle.index_core.specs.Keeping.{AreCurrent, least_applied, known_batches}
 use Rattle.index_core.specs.Slots.{batched, AreBatchesFrom}
 use Rattle.index_core.proofs.ListLemmas.{all_weaker}
+use Rattle.index_core.proofs.NeededLemmas.{needed}
 
 least_known : (most : ℕ) (ps : List PlainPiece) → (least_applied most ps ≤ most)
     × AllByRecursion (λ p. least_applied most ps ≤ p.applied) ps
@@ -168,7 +169,7 @@ covered_are {r} {ps} {bs} {buffer} shared number qs each =
 
 parts_are : {r : Record} {ps : List PlainPiece} {bs : List PlainBatch} {buffer : List PlainOp}
     → AreShared r ps bs buffer → (number : ℕ) → AreOf r (shared_parts number r ps bs)
-parts_are {r} {ps} shared number = record {
+parts_are {r} {ps} {bs} shared number = record {
   parts_of = record {
     pieces = covered_are shared number ps shared.pieces.each;
     live = shared.pieces.live;
@@ -177,6 +178,7 @@ parts_are {r} {ps} shared number = record {
   documents = documents_each r ps shared.pieces.each;
   generations = shared.pieces.generations;
   upto = refl;
+  needed = needed (frozen r) ps bs shared.numbered shared.all_frozen;
 }
 
 pub parts_given : {r : Record} {ps : List PlainPiece} {bs : List PlainBatch}

@@ -2,7 +2,8 @@
 -- Lucene's segment infos.
 use Rattle.std.specs.Prelude.{◌≡◌, ◌≤◌, ⊤, ℕ, Bool, true, false, not, nat_lt, ◌&&◌}
 use Rattle.std.specs.Prelude.{if◌then◌else◌, Option, None, List, map}
-use Rattle.std.specs.List.{AllByRecursion}
+use Rattle.std.specs.List.{AllByRecursion, list_any}
+use Rattle.sg_paths.specs.Operations.{PlainBatch}
 use Rattle.segment.specs.Pieces.{PieceBody, unbuilt, segment, PlainPiece, piece_documents}
 use Rattle.segment.specs.Views.{PlainParts, AreParts, IsApplied, IsBuildableBody}
 use Rattle.index_core.specs.Histories.{built, live_docs_updated, Record, is_among}
@@ -29,13 +30,20 @@ pub record IsPieceOf (r : Record) (p : PlainPiece) : Type 0 where
   pub known : p.applied ≤ frozen r
   pub buildable : IsBuildableBody p.body
 
--- parts are those of all that is frozen: the current generations, each as the record says
+-- each batch has an operation that some piece doesn't know
+abbrev pub AreNeeded : List PlainPiece → List PlainBatch → Type 0
+AreNeeded pieces batches =
+    AllByRecursion (λ b. list_any (λ p. nat_lt p.applied b.upto) pieces ≡ true) batches
+
+-- parts are those of all that is frozen: the current generations, each as the record says, with no
+-- batch that all of them know
 pub record AreOf (r : Record) (parts : PlainParts) : Type 0 where
   pub parts_of : AreParts r.journal parts
   pub each : AllByRecursion (IsPieceOf r) parts.pieces
   pub documents : map piece_documents parts.pieces ≡ map (documents_of r) parts.generations
   pub generations : parts.generations ≡ current r
   pub upto : parts.upto ≡ frozen r
+  pub needed : AreNeeded parts.pieces parts.batches
 
 -- whether a generation is current and has no segment
 abbrev pub is_unbuilt : Record → ℕ → Bool

@@ -8,7 +8,7 @@ use Rattle.index_core.specs.Histories.{Merge}
 use Rattle.index_core.specs.Records.{with_event, frozen, next_merge, released}
 use Rattle.index_core.specs.LegalHistories.{merged_generation}
 use Rattle.index_core.specs.Merges.{merge_plan}
-use Rattle.index_core.specs.CurrentPieces.{IsPieceOf}
+use Rattle.index_core.specs.CurrentPieces.{IsPieceOf, AreNeeded}
 
 -- the merge that the parts are of
 abbrev pub merge_of : ℕ → PlainParts → Merge
@@ -64,8 +64,9 @@ abbrev pub without_merge : ℕ → List Merge → List Merge
 without_merge number merges = filter (λ m. not (nat_eq m.merge number)) merges
 
 -- parts are those of a merge that begins: each piece as the record says, with all operations that
--- are frozen since
+-- are frozen since, and no batch that all of them know
 pub record AreMergeOf (r : Record) (parts : PlainParts) : Type 0 where
   pub covered : AreCovered r.journal parts
   pub each : AllByRecursion (IsPieceOf r) parts.pieces
   pub upto : parts.upto ≡ frozen r
+  pub needed : AreNeeded parts.pieces parts.batches
