@@ -1,10 +1,9 @@
 -- A merge that a handle has open: it stays so, and what its work brings is what a later record says
 -- that it keeps.
-use Rattle.std.proofs.Common.{◌≡◌, ◌≢◌, ◌≤◌, ℕ, true, false, not, nat_eq, List, [], ◌∷◌, ◌++◌}
-use Rattle.std.proofs.Common.{length, take, refl, sym, ap, ◌∙◌, subst, arith, length-append}
+use Rattle.std.proofs.Common.{◌≡◌, ◌≢◌, ◌≤◌, ℕ, false, not, nat_eq, List}
+use Rattle.std.proofs.Common.{sym, ap, ◌∙◌, subst, arith}
 use Rattle.std.specs.Prelude.{filter, Contains, Option}
 use Rattle.std.specs.List.{AllByRecursion, flat_map, filter_map}
-use Rattle.std.proofs.Math.Seq.{take-append_seam}
 use Rattle.std.proofs.lemmas.Bool.{ne_eqb}
 use Rattle.sg_base.specs.Ranking.{in_order}
 use Rattle.sg_paths.specs.Operations.{PlainOp, PlainNumbered, documents_from}
@@ -12,11 +11,10 @@ use Rattle.sg_paths.specs.LiveDocuments.{is_deleted}
 use Rattle.segment.specs.Views.{PlainParts, AreCovered, all_documents}
 use Rattle.merge_work.specs.Merging.{unless_empty}
 use Rattle.merge_work.specs.Merging.{merged_documents as merged_of}
-use Rattle.index_core.specs.Histories.{HistoryEvent, Record, Merge, is_among, closed_merge}
-use Rattle.index_core.specs.Histories as events
-use Rattle.index_core.specs.Records.{drawn, current, begun_merges, open_merges}
+use Rattle.index_core.specs.Histories.{Record, Merge, is_among, closed_merge}
+use Rattle.index_core.specs.Records.{current, begun_merges, open_merges}
 use Rattle.index_core.specs.Generations.{holders_of, documents_of}
-use Rattle.index_core.specs.LegalHistories.{IsLegal, first_events, merged_documents}
+use Rattle.index_core.specs.LegalHistories.{IsLegal, merged_documents}
 use Rattle.index_core.specs.EndedMerges.{document_cmp, OneHolds, holding}
 use Rattle.index_core.specs.HeldGenerations.{RisesFrom, WereDrawn}
 use Rattle.index_core.specs.MergeCalls.{merge_of, without_merge, AreMergeOf}
@@ -27,49 +25,11 @@ use Rattle.index_core.proofs.ListLemmas.{all_filter, all_weaker}
 use Rattle.index_core.proofs.MergeableLemmas.{documents_are, own_documents}
 use Rattle.index_core.proofs.MergedPieceLemmas.{fewer_pass, one_of_count, own_generations}
 use Rattle.index_core.proofs.MergesLemmas.{is_ending}
-use Rattle.index_core.proofs.SoundRecordLemmas.{legal_sound, generations_keep}
+use Rattle.index_core.proofs.SoundRecordLemmas.{legal_sound}
 use Rattle.index_shared.specs.Sections.{HandleState, seen_by, having, Extends, FindsRecord}
 use Rattle.index_shared.specs.OwnViews.{merges_by, HasMerge}
+use Rattle.index_shared.proofs.ExtendsLemmas.{same_documents}
 use Rattle.index_shared.proofs.ListLemmas.{in_whole, in_filtered}
-
--- ---- generations that were drawn hold what they held
-
--- the shorter record is that of the first events
-is_first : (r later : Record) → IsLegal r → Extends r later
-    → first_events (length r.history) later ≡ r
-is_first r later legal more =
-    let front : take (length r.history) later.history ≡ r.history =
-    ap (λ (h : List HistoryEvent). take (length r.history) h) more.history_is
-    ∙ take-append_seam r.history more.events in
-    let ops : take (length r.journal) later.journal ≡ r.journal =
-    ap (λ (ops : List PlainOp). take (length r.journal) ops) more.journal_is
-    ∙ take-append_seam r.journal more.operations in
-    ap (λ (h : List HistoryEvent). record {
-      history = h;
-      journal = take (events.accepted h) later.journal;
-    }) front
-    ∙ ap (λ (n : ℕ). record { history = r.history; journal = take n later.journal })
-    (sym legal.numbered)
-    ∙ ap (λ (ops : List PlainOp). record { history = r.history; journal = ops }) ops
-
-pub still_holds : (r later : Record) → IsLegal r → IsLegal later → Extends r later → (g : ℕ)
-    → is_among g (drawn r) ≡ true → documents_of later g ≡ documents_of r g
-still_holds r later legal legal' more g there =
-    let long = ap (λ (h : List HistoryEvent). length h) more.history_is in
-    let sum = length-append r.history more.events in
-    let first = is_first r later legal more in
-    generations_keep later (length r.history) g legal' (omega (arith, long, sum))
-    (ap (λ (x : Record). is_among g (drawn x)) first ∙ there)
-    ∙ ap (λ (x : Record). documents_of x g) first
-
-same_documents : (r later : Record) → IsLegal r → IsLegal later → Extends r later → (gs : List ℕ)
-    → WereDrawn r gs → flat_map (documents_of later) gs ≡ flat_map (documents_of r) gs
-same_documents r later legal legal' more [] were = refl
-same_documents r later legal legal' more (g ∷ gs) were =
-    ap (λ (ds : List PlainNumbered). ds ++ flat_map (documents_of later) gs)
-    (still_holds r later legal legal' more g were.0)
-    ∙ ap (λ (ds : List PlainNumbered). documents_of r g ++ ds)
-    (same_documents r later legal legal' more gs were.1)
 
 -- ---- a merge stays
 

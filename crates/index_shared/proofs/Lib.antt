@@ -2,9 +2,13 @@ pub mod ListLemmas
 pub mod WalkLemmas
 pub mod OwnViewLemmas
 pub mod OwnMergeLemmas
+pub mod ExtendsLemmas
+pub mod AppendedLemmas
 pub mod SectionLemmas
 pub mod HasMergeLemmas
-pub mod CallLemmas
+pub mod ViewCallLemmas
+pub mod MergeCallLemmas
+pub mod MergeBeginLemmas
 pub mod OfferGrowthLemmas
 pub mod OfferUpToDateLemmas
 pub mod OfferEventLemmas

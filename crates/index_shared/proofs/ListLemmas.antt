@@ -136,3 +136,21 @@ module _ {X : Type 0} (caller : X → ℕ) (c : ℕ) where
           sym is' ∙ ap (λ (z : X). nat_eq (caller z) c) (only.0 is) ∙ other in
           absurd cc
       by_tests true false is is' e = e
+
+  -- its own in a later list, from its own in the one found
+  module _ (found later before : List X) (is : mine found ≡ before) where
+    pub mine_same : later ≡ found → mine later ≡ before
+    mine_same same = ap mine same ∙ is
+
+    pub mine_more : (x : X) → caller x ≡ c → later ≡ found ++ x ∷ []
+        → mine later ≡ before ++ x ∷ []
+    mine_more x own more =
+        ap mine more ∙ own_more found x own ∙ ap (λ (xs : List X). xs ++ x ∷ []) is
+
+    pub mine_fewer : (p : X → Bool) → later ≡ filter p found → mine later ≡ filter p before
+    mine_fewer p fewer =
+        ap mine fewer ∙ filters_swap (λ x. nat_eq (caller x) c) p found ∙ ap (filter p) is
+
+    pub mine_others : (p : X → Bool) → filter p later ≡ found → filter p (mine later) ≡ before
+    mine_others p others =
+        filters_swap p (λ x. nat_eq (caller x) c) later ∙ ap mine others ∙ is

@@ -8,7 +8,7 @@ use Rattle.std.proofs.lemmas.Bool.Decides.{nat_tests}
 use Rattle.std.proofs.lemmas.List.{append-nil, append_assoc, append_cancel_left}
 use Rattle.std.proofs.lemmas.List.Elements.{filter-append}
 use Rattle.sg_paths.specs.Operations.{PlainOp}
-use Rattle.turn_lock.specs.Handles.{own, Continues}
+use Rattle.turn_lock.specs.Handles.{own}
 use Rattle.index_core.specs.Histories.{HistoryEvent, Record}
 use Rattle.index_core.specs.Records.{accepted, frozen, current}
 use Rattle.index_core.specs.LegalHistories.{IsLegal}
@@ -17,21 +17,23 @@ use Rattle.index_core.specs.CurrentPieces.{after_built}
 use Rattle.index_core.proofs.ListLemmas.{no_items, all_both}
 use Rattle.index_core.proofs.PlannedLemmas.{all_members}
 use Rattle.index_shared.specs.Sections.{caller_of, HandleState, seen_by, having, FindsRecord}
+use Rattle.index_shared.specs.Sections.{Extends}
 use Rattle.index_shared.specs.Offers.{refreshed, after_flush, built_by_flush, IsUpkeep}
 use Rattle.index_shared.specs.Offers.{segments_due, Refreshed, Refreshes, Offered, StoppedIn}
-use Rattle.index_shared.specs.Offers.{StopsAt, OfferStopped}
+use Rattle.index_shared.specs.Offers.{StopsAt, OfferStopped, AddsUpkeep}
 use Rattle.index_shared.specs.Offering.{IsTended}
 use Rattle.index_shared.proofs.OfferBuiltLemmas.{built_along, built_along_is}
-use Rattle.index_shared.proofs.OfferEventLemmas.{tended_freeze, tended_refreshed, tended_built}
-use Rattle.index_shared.proofs.OfferEventLemmas.{tended_numbered}
+use Rattle.index_shared.proofs.ExtendsLemmas.{extends_same, extends_on}
+use Rattle.index_shared.proofs.OfferEventLemmas.{tended_extends, tended_freeze, tended_refreshed}
+use Rattle.index_shared.proofs.OfferEventLemmas.{tended_built, tended_numbered}
 use Rattle.index_shared.proofs.OfferGrowthLemmas.{current_rise}
-use Rattle.index_shared.proofs.OfferHandleLemmas.{continues_same, continues_tended}
-use Rattle.index_shared.proofs.OfferHandleLemmas.{continues_refreshes}
-use Rattle.index_shared.proofs.OfferStopLemmas.{continues_stops}
+use Rattle.index_shared.proofs.OfferHandleLemmas.{refreshes_extends}
+use Rattle.index_shared.proofs.OfferStopLemmas.{stops_extends}
 
 -- ---- nobody else
 
-first_none : {X : Type 0} (xs ys : List X) → xs ++ ys ≡ [] → xs ≡ []
+-- where both together are nothing, each is
+pub first_none : {X : Type 0} (xs ys : List X) → xs ++ ys ≡ [] → xs ≡ []
 first_none [] ys none = refl
 first_none (x ∷ xs) ys none = absurd (cc)
 
@@ -72,7 +74,7 @@ pub record IsAlone (h h' : HandleState) : Type 0 where
 
 -- what was seen in between, and the events that came then and later
 middle : (h h' : HandleState) (alone : IsAlone h h') (r : Record)
-    (p : Continues h r.history r.journal) (q : Continues (having h r) h'.history h'.journal)
+    (p : Extends (seen_by h) r) (q : Extends r (seen_by h'))
     → alone.more ≡ p.events ++ q.events
 middle h h' alone r p q =
     append_cancel_left h.history alone.more (p.events ++ q.events)
@@ -81,7 +83,7 @@ middle h h' alone r p q =
     ∙ append_assoc h.history p.events q.events)
 
 quiet_parts : (h h' : HandleState) (alone : IsAlone h h') (r : Record)
-    (p : Continues h r.history r.journal) (q : Continues (having h r) h'.history h'.journal)
+    (p : Extends (seen_by h) r) (q : Extends r (seen_by h'))
     → own caller_of 0 p.events ++ own caller_of 0 q.events ≡ []
 quiet_parts h h' alone r p q =
     sym (filter-append (λ e. nat_eq (caller_of e) 0) p.events q.events)
@@ -89,7 +91,7 @@ quiet_parts h h' alone r p q =
 
 -- a section finds what was seen
 pub found_is_seen : (h h' : HandleState) → IsAlone h h' → (found : Record) → FindsRecord h found
-    → IsLegal found → Continues (having h found) h'.history h'.journal → found ≡ seen_by h
+    → IsLegal found → Extends found (seen_by h') → found ≡ seen_by h
 found_is_seen h h' alone found finds legal later =
     let events = finds.later.events in
     let zeros : own caller_of 0 events ≡ [] =
@@ -122,8 +124,8 @@ found_is_seen h h' alone found finds legal later =
 
 -- and from what comes next on it is alone too
 alone_next : (h h' : HandleState) → IsAlone h h' → (r : Record)
-    → Continues h r.history r.journal → Continues (having h r) h'.history h'.journal
-    → length r.journal ≡ accepted r → IsAlone (having h r) h'
+    → Extends (seen_by h) r → Extends r (seen_by h') → length r.journal ≡ accepted r
+    → IsAlone (having h r) h'
 alone_next h h' alone r p q numbered = record {
   seats = alone.seats;
   number = alone.number;
@@ -137,28 +139,15 @@ alone_next h h' alone r p q numbered = record {
 -- ---- all sections
 
 -- what a section found, and then the events of a flush
-after_tended : (h : HandleState) (c most : ℕ) (found r : Record) (h' : HandleState)
-    → IsTended c most found r → Continues (having h r) h'.history h'.journal
-    → Continues (having h found) h'.history h'.journal
-after_tended h c most found r h' tended later = record {
-  events = tended.events ++ later.events;
-  operations = later.operations;
-  history_is = later.history_is
-      ∙ ap (λ (es : List HistoryEvent). es ++ later.events) tended.history_is
-      ∙ append_assoc found.history tended.events later.events;
-  journal_is = later.journal_is
-      ∙ ap (λ (ops : List PlainOp). ops ++ later.operations) tended.journal_is;
-}
-
-seen_continues : (h : HandleState) (r : Record) → r ≡ seen_by h
-    → Continues h r.history r.journal
-seen_continues h r is =
-    subst (λ (x : Record). Continues h x.history x.journal) (sym is) (continues_same h)
+after_tended : (c most : ℕ) (found r : Record) (h' : HandleState) → IsTended c most found r
+    → Extends r (seen_by h') → Extends found (seen_by h')
+after_tended c most found r h' tended later =
+    extends_on found r (seen_by h') (tended_extends c most found r tended) later
 
 -- one generation, in what was seen
 alone_step : (h : HandleState) (upto g count : ℕ) (next h' : HandleState)
     (one : Refreshed h upto g count next) → IsAlone h h'
-    → Continues (having h (refreshed h.number upto one.found g)) h'.history h'.journal
+    → Extends (refreshed h.number upto one.found g) (seen_by h')
     → (one.found ≡ seen_by h) × IsAlone (having h (refreshed h.number upto one.found g)) h'
 alone_step h upto g count next h' one alone later =
     let c = h.number in
@@ -168,12 +157,12 @@ alone_step h upto g count next h' one alone later =
     elim one.finds [
       | inl finds ↦
           found_is_seen h h' alone one.found finds one.legal
-          (after_tended h c 2 one.found r h' tended later)
+          (after_tended c 2 one.found r h' tended later)
       | inr same ↦ same.0
     ] in (
       found,
       alone_next h h' alone r
-          (continues_tended h one.found r c 2 (seen_continues h one.found found) tended) later
+          (subst (λ (x : Record). Extends x r) found (tended_extends c 2 one.found r tended)) later
           (tended_numbered c 2 one.found r tended one.legal.numbered),
     )
 
@@ -189,7 +178,7 @@ alone_refreshes h upto (g ∷ gs) count h' are alone =
     let sections : Refreshes (having h r) upto gs are.2 h' =
     subst (λ (x : HandleState). Refreshes x upto gs are.2 h') one.after are.5 in
     let step = alone_step h upto g are.1 are.0 h' one alone
-    (continues_refreshes (having h r) upto gs are.2 h' sections) in
+    (refreshes_extends (having h r) upto gs are.2 h' sections) in
     let same : r ≡ refreshed c upto (seen_by h) g =
     ap (λ (x : Record). refreshed c upto x g) step.0 in
     let rest = alone_refreshes (having h r) upto gs are.2 h' sections step.1 in (
@@ -223,14 +212,15 @@ offered_alone h h' count more seats number legal legal' history quiet offered =
     let c = h.number in
     let r = after_freeze c offered.found in
     let alone = is_alone h h' more seats number legal history quiet in
-    let later = continues_refreshes (having h r) (frozen r) (current r) count h'
+    let later = refreshes_extends (having h r) (frozen r) (current r) count h'
     offered.sections in
     let tended = tended_freeze c offered.found in
     let found : offered.found ≡ seen_by h =
     found_is_seen h h' alone offered.found offered.finds offered.legal
-    (after_tended h c 1 offered.found r h' tended later) in
+    (after_tended c 1 offered.found r h' tended later) in
     let all = alone_refreshes (having h r) (frozen r) (current r) count h' offered.sections
-    (alone_next h h' alone r (continues_tended h offered.found r c 1 offered.finds.later tended)
+    (alone_next h h' alone r
+    (subst (λ (x : Record). Extends x r) found (tended_extends c 1 offered.found r tended))
     later (tended_numbered c 1 offered.found r tended offered.legal.numbered)) in
     let counted = built_along_is c (frozen r) 1 r (current r)
     (current_rise r (seen_by h') later.events legal' later.history_is)
@@ -241,14 +231,7 @@ offered_alone h h' count more seats number legal legal' history quiet offered =
 
 -- ---- an offer that stops
 
--- events of a flush alone came since
-record IsKept (r s : Record) : Type 0 where
-  events : List HistoryEvent
-  history_is : s.history ≡ r.history ++ events
-  journal_is : s.journal ≡ r.journal
-  upkeep : AllByRecursion IsUpkeep events
-
-kept_same : (r : Record) → IsKept r r
+kept_same : (r : Record) → AddsUpkeep r r
 kept_same r = record {
   events = [];
   history_is = sym (append-nil r.history);
@@ -256,7 +239,7 @@ kept_same r = record {
   upkeep = tt;
 }
 
-kept_tended : (c most : ℕ) (r s : Record) → IsTended c most r s → IsKept r s
+kept_tended : (c most : ℕ) (r s : Record) → IsTended c most r s → AddsUpkeep r s
 kept_tended c most r s tended = record {
   events = tended.events;
   history_is = tended.history_is;
@@ -264,7 +247,7 @@ kept_tended c most r s tended = record {
   upkeep = tended.upkeep;
 }
 
-kept_both : (r s t : Record) → IsKept r s → IsKept s t → IsKept r t
+kept_both : (r s t : Record) → AddsUpkeep r s → AddsUpkeep s t → AddsUpkeep r t
 kept_both r s t p q = record {
   events = p.events ++ q.events;
   history_is = q.history_is
@@ -276,43 +259,48 @@ kept_both r s t p q = record {
 
 -- what a section found is what was seen, and then the handle saw this
 kept_found : (h : HandleState) (found r : Record) (h' : HandleState) → found ≡ seen_by h
-    → h' ≡ having h r → IsKept found r → IsKept (seen_by h) (seen_by h')
+    → h' ≡ having h r → AddsUpkeep found r → AddsUpkeep (seen_by h) (seen_by h')
 kept_found h found r h' seen is kept =
-    subst (λ (x : HandleState). IsKept (seen_by h) (seen_by x)) (sym is)
-    (subst (λ (x : Record). IsKept x r) seen kept)
+    subst (λ (x : HandleState). AddsUpkeep (seen_by h) (seen_by x)) (sym is)
+    (subst (λ (x : Record). AddsUpkeep x r) seen kept)
+
+-- a section that left what it found
+kept_alone : (h : HandleState) (found : Record) (h' : HandleState) → IsAlone h h'
+    → FindsRecord h found → IsLegal found → h' ≡ having h found
+    → AddsUpkeep (seen_by h) (seen_by h')
+kept_alone h found h' alone finds legal same =
+    let later : Extends found (seen_by h') =
+    subst (λ (x : HandleState). Extends found (seen_by x)) (sym same) (extends_same found) in
+    kept_found h found found h' (found_is_seen h h' alone found finds legal later) same
+    (kept_same found)
 
 stopped_in : (h : HandleState) (g : ℕ) (h' : HandleState) → StoppedIn h g h' → IsAlone h h'
-    → IsKept (seen_by h) (seen_by h')
+    → AddsUpkeep (seen_by h) (seen_by h')
 stopped_in h g h' stopped alone =
     let c = h.number in
     let found = stopped.found in
     elim stopped.after [
-      | inl same ↦
-          let later : Continues (having h found) h'.history h'.journal =
-          subst (λ (x : HandleState). Continues (having h found) x.history x.journal) (sym same)
-          (continues_same (having h found)) in
-          kept_found h found found h'
-          (found_is_seen h h' alone found stopped.finds stopped.legal later) same (kept_same found)
+      | inl same ↦ kept_alone h found h' alone stopped.finds stopped.legal same
       | inr given ↦
           let r = after_built c g found in
           let tended = tended_built c g found in
-          let later : Continues (having h found) h'.history h'.journal =
-          after_tended h c 1 found r h' tended
-          (subst (λ (x : HandleState). Continues (having h r) x.history x.journal) (sym given)
-          (continues_same (having h r))) in
+          let later : Extends found (seen_by h') =
+          subst (λ (x : HandleState). Extends found (seen_by x)) (sym given)
+          (tended_extends c 1 found r tended) in
           kept_found h found r h'
           (found_is_seen h h' alone found stopped.finds stopped.legal later) given
           (kept_tended c 1 found r tended)
     ]
 
 stops_alone : (h : HandleState) (upto : ℕ) (gs : List ℕ) (h' : HandleState)
-    → StopsAt h upto gs h' → IsAlone h h' → IsKept (seen_by h) (seen_by h')
+    → StopsAt h upto gs h' → IsAlone h h' → AddsUpkeep (seen_by h) (seen_by h')
 stops_alone h upto [] h' stops alone =
-    subst (λ (x : HandleState). IsKept (seen_by h) (seen_by x)) (sym stops) (kept_same (seen_by h))
+    subst (λ (x : HandleState). AddsUpkeep (seen_by h) (seen_by x)) (sym stops)
+    (kept_same (seen_by h))
 stops_alone h upto (g ∷ gs) h' stops alone =
     elim stops [
       | inl same ↦
-          subst (λ (x : HandleState). IsKept (seen_by h) (seen_by x)) (sym same)
+          subst (λ (x : HandleState). AddsUpkeep (seen_by h) (seen_by x)) (sym same)
           (kept_same (seen_by h))
       | inr later ↦
           elim later [
@@ -323,47 +311,37 @@ stops_alone h upto (g ∷ gs) h' stops alone =
                 let rest : StopsAt (having h r) upto gs h' =
                 subst (λ (x : HandleState). StopsAt x upto gs h') one.after more.3 in
                 let step = alone_step h upto g more.1 more.0 h' one alone
-                (continues_stops (having h r) upto gs h' rest) in
+                (stops_extends (having h r) upto gs h' rest) in
                 kept_both (seen_by h) r (seen_by h')
-                (subst (λ (x : Record). IsKept x r) step.0
+                (subst (λ (x : Record). AddsUpkeep x r) step.0
                 (kept_tended h.number 2 one.found r (tended_refreshed h.number upto one.found g)))
                 (stops_alone (having h r) upto gs h' rest step.1)
           ]
     ]
 
 stopped_kept : (h h' : HandleState) → IsAlone h h' → OfferStopped h h'
-    → IsKept (seen_by h) (seen_by h')
+    → AddsUpkeep (seen_by h) (seen_by h')
 stopped_kept h h' alone stopped =
     let c = h.number in
     let found = stopped.found in
     let r = after_freeze c found in
     elim stopped.sections [
-      | inl same ↦
-          let later : Continues (having h found) h'.history h'.journal =
-          subst (λ (x : HandleState). Continues (having h found) x.history x.journal) (sym same)
-          (continues_same (having h found)) in
-          kept_found h found found h'
-          (found_is_seen h h' alone found stopped.finds stopped.legal later) same (kept_same found)
+      | inl same ↦ kept_alone h found h' alone stopped.finds stopped.legal same
       | inr stops ↦
-          let later = continues_stops (having h r) (frozen r) (current r) h' stops in
+          let later = stops_extends (having h r) (frozen r) (current r) h' stops in
           let tended = tended_freeze c found in
           let seen = found_is_seen h h' alone found stopped.finds stopped.legal
-          (after_tended h c 1 found r h' tended later) in
+          (after_tended c 1 found r h' tended later) in
           kept_both (seen_by h) r (seen_by h')
-          (subst (λ (x : Record). IsKept x r) seen (kept_tended c 1 found r tended))
+          (subst (λ (x : Record). AddsUpkeep x r) seen (kept_tended c 1 found r tended))
           (stops_alone (having h r) (frozen r) (current r) h' stops
           (alone_next h h' alone r
-          (continues_tended h found r c 1 stopped.finds.later tended) later
+          (subst (λ (x : Record). Extends x r) seen (tended_extends c 1 found r tended)) later
           (tended_numbered c 1 found r tended stopped.legal.numbered)))
     ]
 
 pub stopped_alone : (h h' : HandleState) (more : List HistoryEvent) → h.seats ≡ 2 → h.number ≡ 1
     → IsLegal (seen_by h) → h'.history ≡ h.history ++ more → own caller_of 0 more ≡ []
-    → OfferStopped h h' → AllByRecursion IsUpkeep more × (h'.journal ≡ h.journal)
+    → OfferStopped h h' → AddsUpkeep (seen_by h) (seen_by h')
 stopped_alone h h' more seats number legal history quiet stopped =
-    let kept = stopped_kept h h' (is_alone h h' more seats number legal history quiet) stopped in (
-      subst (AllByRecursion IsUpkeep)
-          (append_cancel_left h.history kept.events more (sym kept.history_is ∙ history))
-          kept.upkeep,
-      kept.journal_is,
-    )
+    stopped_kept h h' (is_alone h h' more seats number legal history quiet) stopped

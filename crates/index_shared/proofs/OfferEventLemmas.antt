@@ -14,9 +14,17 @@ use Rattle.index_core.specs.CurrentPieces.{is_unbuilt, after_built, is_behind, a
 use Rattle.index_core.proofs.EventLemmas.{open_merges-skip}
 use Rattle.index_core.proofs.ListLemmas.{all_both}
 use Rattle.index_core.proofs.ViewLemmas.{open_views-skip}
-use Rattle.index_shared.specs.Sections.{caller_of}
+use Rattle.index_shared.specs.Sections.{caller_of, Extends}
 use Rattle.index_shared.specs.Offers.{refreshed, IsUpkeep}
 use Rattle.index_shared.specs.Offering.{IsTended}
+
+abbrev pub tended_extends : (c most : ℕ) (r s : Record) → IsTended c most r s → Extends r s
+tended_extends c most r s p = record {
+  events = p.events;
+  operations = [];
+  history_is = p.history_is;
+  journal_is = p.journal_is ∙ sym (append-nil r.journal);
+}
 
 -- ---- chains
 

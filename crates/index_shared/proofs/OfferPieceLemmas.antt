@@ -12,7 +12,7 @@ use Rattle.index_core.specs.Records.{frozen, current}
 use Rattle.index_core.specs.LegalHistories.{IsLegal}
 use Rattle.index_core.specs.Calls.{after_freeze}
 use Rattle.index_core.specs.CurrentPieces.{AreOf}
-use Rattle.index_shared.specs.Sections.{HandleState, seen_by, having, Extends}
+use Rattle.index_shared.specs.Sections.{HandleState, seen_by, having}
 use Rattle.index_shared.specs.Offers.{Refreshed, Refreshes, Offered, StoppedIn, StopsAt}
 use Rattle.index_shared.specs.Offers.{OfferStopped}
 use Rattle.index_shared.specs.Offering.{Tends, Froze, IsReady}
@@ -98,14 +98,6 @@ stops_next h now h' upto i p ps less is so_far stopped =
 
 -- ---- what a handle that has seen more knows
 
-tends_extends : (h next : HandleState) → Tends h next → Extends (seen_by h) (seen_by next)
-tends_extends h next tends = record {
-  events = tends.upkeep.later.events;
-  operations = tends.upkeep.later.operations;
-  history_is = tends.upkeep.later.history_is;
-  journal_is = tends.upkeep.later.journal_is;
-}
-
 -- the first of the pieces that are left
 pub ready_here : (h : HandleState) (upto i : ℕ) (bs : List PlainBatch) (p : PlainPiece)
     (ps : List PlainPiece) → i < length ps → p ≡ get_or ps i p
@@ -124,7 +116,7 @@ ready_next : (h next : HandleState) (upto i : ℕ) (bs : List PlainBatch) (p : P
 ready_next h next upto i bs p ps less is legal tends ready =
     let split : drop i ps ≡ p ∷ drop (i + 1) ps =
     drop_more ps i p less ∙ ap (λ (q : PlainPiece). q ∷ drop (i + 1) ps) (sym is) in
-    all_ready_later (seen_by h) (seen_by next) legal tends.legal (tends_extends h next tends) upto
+    all_ready_later (seen_by h) (seen_by next) legal tends.legal tends.upkeep.later upto
     bs (drop (i + 1) ps)
     (subst (λ (qs : List PlainPiece). AllByRecursion (IsReady (seen_by h) upto bs) qs) split
     ready).1

@@ -1,6 +1,6 @@
 -- The pieces of an offer are ready to be refreshed, and stay so whatever is appended.
 use Rattle.std.proofs.Common.{◌≡◌, ◌≤◌, inr, ℕ, true, List, [], ◌∷◌, map}
-use Rattle.std.proofs.Common.{sym, ap, ◌∙◌, subst, arith, append-nil, Bool, ◌&&◌}
+use Rattle.std.proofs.Common.{sym, ap, ◌∙◌, subst, arith, Bool, ◌&&◌}
 use Rattle.std.specs.Prelude.{nat_le}
 use Rattle.std.proofs.lemmas.Bool.Decides.{nat_tests}
 use Rattle.std.specs.List.{AllByRecursion}
@@ -21,8 +21,8 @@ use Rattle.index_core.proofs.SoundRecordLemmas.{legal_sound}
 use Rattle.index_shared.specs.Sections.{Extends}
 use Rattle.index_shared.specs.Offering.{Fits, IsReady}
 use Rattle.index_shared.specs.Offers.{IsUpToDate}
-use Rattle.index_shared.proofs.HasMergeLemmas.{still_holds}
-use Rattle.index_shared.proofs.OfferEventLemmas.{tended_built}
+use Rattle.index_shared.proofs.ExtendsLemmas.{still_holds}
+use Rattle.index_shared.proofs.OfferEventLemmas.{tended_extends, tended_built}
 use Rattle.index_shared.proofs.OfferGrowthLemmas.{drawn_grows, frozen_grows}
 use Rattle.index_shared.proofs.OfferUpToDateLemmas.{up_to_date_stays}
 
@@ -122,13 +122,7 @@ pub fits_built : (c x upto g : ℕ) (r now s : Record) (ds : List PlainNumbered)
     → r ≡ now → IsLegal r → IsLegal s → s ≡ after_built c x r
     → (IsLegal now → Fits now upto g ds live) → Fits s upto g ds live
 fits_built c x upto g r now s ds live same legal legal' is fits =
-    let tended = tended_built c x r in
-    let more : Extends r (after_built c x r) = record {
-      events = tended.events;
-      operations = [];
-      history_is = tended.history_is;
-      journal_is = tended.journal_is ∙ sym (append-nil r.journal);
-    } in
+    let more = tended_extends c 1 r (after_built c x r) (tended_built c x r) in
     fits_later r s legal legal' (subst (Extends r) (sym is) more) upto g ds live
     (subst (λ (x : Record). Fits x upto g ds live) (sym same) (fits (subst IsLegal same legal)))
 

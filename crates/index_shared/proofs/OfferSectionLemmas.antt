@@ -1,7 +1,6 @@
 -- What a critical section of an offer makes of its handle, and what one after another does.
-use Rattle.std.proofs.Common.{◌≡◌, ◌⊎◌, ℕ, Bool, false, nat_eq, List, []}
+use Rattle.std.proofs.Common.{◌≡◌, ◌⊎◌, ℕ, Bool, nat_eq, List}
 use Rattle.std.proofs.Common.{◌++◌, Result, Ok, Err, inl, inr, refl, sym, ap, ◌∙◌, subst, arith}
-use Rattle.std.proofs.Common.{append-nil}
 use Rattle.std.specs.Prelude.{IfOk, OnOk, OnErr, if◌then◌else◌, filter}
 use Rattle.std.specs.List.{AllByRecursion}
 use Rattle.std.proofs.lemmas.List.Elements.{filter-append}
@@ -12,17 +11,18 @@ use Rattle.index_core.specs.Calls.{after_freeze}
 use Rattle.index_core.specs.CurrentPieces.{is_unbuilt, after_built}
 use Rattle.index_core.proofs.ListLemmas.{all_both, all_filter}
 use Rattle.index_shared.specs.Sections.{caller_of, HandleState, seen_by, having, FindsRecord}
-use Rattle.index_shared.specs.Sections.{Extends, IsAt}
+use Rattle.index_shared.specs.Sections.{IsAt}
 use Rattle.index_shared.specs.OwnViews.{open_by, merges_by}
 use Rattle.index_shared.specs.Offers.{refreshed, Refreshed, IsUpkeep, UpkeepAlone, StoppedIn}
 use Rattle.index_shared.specs.Offers.{IsUpToDate}
 use Rattle.index_shared.specs.Offering.{IsTended, Tends, FreezeStopped}
+use Rattle.index_shared.proofs.AppendedLemmas.{OwnMore}
+use Rattle.index_shared.proofs.ExtendsLemmas.{extends_same, extends_on}
 use Rattle.index_shared.proofs.HasMergeLemmas.{has_same}
+use Rattle.index_shared.proofs.OfferEventLemmas.{tended_extends}
 use Rattle.index_shared.proofs.OwnMergeLemmas.{own_merges_stay}
 use Rattle.index_shared.proofs.OwnViewLemmas.{own_views_stay}
-use Rattle.index_shared.proofs.SectionLemmas.{OwnMore, Enters, finds_it}
-use Rattle.index_shared.proofs.SectionLemmas.{number_is, leaves, after}
-use Rattle.index_shared.proofs.OfferHandleLemmas.{continues_same, continues_on, continues_tended}
+use Rattle.index_shared.proofs.SectionLemmas.{Enters, leaves, Visited}
 use Rattle.index_shared.proofs.OfferUpToDateLemmas.{not_unbuilt, same_refreshed}
 
 -- ---- one section
@@ -31,10 +31,7 @@ use Rattle.index_shared.proofs.OfferUpToDateLemmas.{not_unbuilt, same_refreshed}
 pub tended_more : (c : ℕ) (found later : Record) → IsTended c 2 found later
     → OwnMore c 3 found later
 tended_more c found later tended = record {
-  events = tended.events;
-  operations = [];
-  history_is = tended.history_is;
-  journal_is = tended.journal_is ∙ sym (append-nil found.journal);
+  later = tended_extends c 2 found later tended;
   few = let few = tended.few in omega (arith, few);
   own_alone = tended.by;
 }
@@ -53,7 +50,8 @@ module _ (h : HandleState) (found later : Record) (finds : FindsRecord h found)
 
     pub section_tends : Tends h (having h later)
     section_tends =
-        let seen = continues_tended h found later h.number 2 finds.later tended in
+        let seen = extends_on (seen_by h) found later finds.later
+        (tended_extends h.number 2 found later tended) in
         let views : open_by h.number later ≡ open_by h.number (seen_by h) =
         ap (λ (vs : List View). filter (λ v. nat_eq v.caller h.number) vs) tended.views
         ∙ own_views_stay h found finds legal in
@@ -68,38 +66,31 @@ module _ (h : HandleState) (found later : Record) (finds : FindsRecord h found)
           };
           views = views;
           merges = merges;
-          keeps = has_same h later (record {
-            events = seen.events;
-            operations = seen.operations;
-            history_is = seen.history_is;
-            journal_is = seen.journal_is;
-          }) legal' merges;
+          keeps = has_same h later seen legal' merges;
           legal = legal';
         }
 
 -- as the proof of a call sees it
-module _ {h inside : HandleState} {value found : Record} {number : ℕ}
+pub section_leaves : {h inside : HandleState} {value found : Record} {number : ℕ}
     (enters : Enters h inside value found number) (later : Record)
-    (tended : IsTended number 2 found later) where
-  tended_it : IsTended h.number 2 found later
-  tended_it = subst (λ (n : ℕ). IsTended n 2 found later) (number_is enters) tended
+    → IsTended number 2 found later → Leaves caller_of inside later.history later.journal
+section_leaves {found = found} {number = number} enters later tended =
+    leaves enters later (tended_more number found later tended)
 
-  pub section_leaves : Leaves caller_of inside later.history later.journal
-  section_leaves = leaves enters later (tended_more number found later tended)
-
-  pub section_after : (new : HandleState) → IsLegal found → IsLegal later → h.inside ≡ false
-      → new ≡ record inside { inside = false; history = later.history; journal = later.journal }
-      → Tends h new
-  section_after new legal legal' outside is =
-      subst (Tends h) (sym (after enters new later outside is))
-      (section_tends h found later (finds_it enters) legal tended_it legal')
+pub section_after : {h new : HandleState} {found later : Record} {number : ℕ}
+    → Visited h found later new → number ≡ h.number → IsTended number 2 found later
+    → IsLegal later → Tends h new
+section_after {h = h} {found = found} {later = later} visit mine tended legal =
+    subst (Tends h) (sym visit.now_is)
+    (section_tends h found later visit.finds visit.legal
+    (subst (λ (n : ℕ). IsTended n 2 found later) mine tended) legal)
 
 -- ---- one after another
 
 pub tends_same : (h : HandleState) → IsLegal (seen_by h) → Tends h h
 tends_same h legal = record {
   same = refl;
-  upkeep = record { later = continues_same h; upkeep = tt };
+  upkeep = record { later = extends_same (seen_by h); upkeep = tt };
   views = refl;
   merges = refl;
   keeps = λ parts has. has;
@@ -118,7 +109,7 @@ tends_both h next last p q =
     record {
       same = q.same ∙ ap (λ (x : HandleState). having x (seen_by last)) p.same;
       upkeep = record {
-        later = continues_on h next last first second;
+        later = extends_on (seen_by h) (seen_by next) (seen_by last) first second;
         upkeep = subst (AllByRecursion IsUpkeep)
             (sym (filter-append test first.events second.events))
             (all_both IsUpkeep (own caller_of h.number first.events)
@@ -142,78 +133,57 @@ still_at index h next p at = (
 
 -- ---- one generation
 
--- what a section finds is a later record
-pub found_extends : (h : HandleState) (found : Record) → FindsRecord h found
-    → Extends (seen_by h) found
-found_extends h found finds = record {
-  events = finds.later.events;
-  operations = finds.later.operations;
-  history_is = finds.later.history_is;
-  journal_is = finds.later.journal_is;
+-- in a section
+pub gives : {E : Type 0} {h new : HandleState} {found later : Record} {number : ℕ}
+    (visit : Visited h found later new) (upto g : ℕ) (result : Result Bool E) → number ≡ h.number
+    → IfOk result (λ done. done ≡ is_unbuilt found g)
+    → OnOk result (later ≡ refreshed number upto found g)
+    → IfOk result (λ done. Refreshed h upto g (if done then 1 else 0) new)
+gives {h = h} {found = found} visit upto g (Ok done) mine answer ok = record {
+  found = found;
+  finds = inl visit.finds;
+  legal = visit.legal;
+  counted = ap (λ (b : Bool). if b then 1 else 0) answer;
+  after = visit.now_is
+      ∙ ap (having h) (ok ∙ ap (λ (n : ℕ). refreshed n upto found g) mine);
+}
+gives visit upto g (Err e) mine answer ok = tt
+
+-- what was left is what it found, or what it made of that
+left_as : {h new : HandleState} {found later : Record} {number : ℕ} → Visited h found later new
+    → number ≡ h.number → (f : ℕ → Record) → (later ≡ found) ⊎ (later ≡ f number)
+    → (new ≡ having h found) ⊎ (new ≡ having h (f h.number))
+left_as {h = h} visit mine f left =
+    elim left [
+      | inl same ↦ inl (visit.now_is ∙ ap (having h) same)
+      | inr made ↦ inr (visit.now_is ∙ ap (having h) (made ∙ ap f mine))
+    ]
+
+-- it stops in the section
+pub stops_in : {E : Type 0} {h new : HandleState} {found later : Record} {number : ℕ}
+    (visit : Visited h found later new) (g : ℕ) (result : Result Bool E) → number ≡ h.number
+    → OnErr result ((later ≡ found) ⊎ (later ≡ after_built number g found))
+    → OnErr result (StoppedIn h g new)
+stops_in visit g (Ok done) mine err = tt
+stops_in {found = found} visit g (Err e) mine err = record {
+  found = found;
+  finds = visit.finds;
+  legal = visit.legal;
+  after = left_as visit mine (λ n. after_built n g found) err;
 }
 
--- in a section
-pub gives : {E : Type 0} {h inside : HandleState} {value found : Record} {number : ℕ}
-    (enters : Enters h inside value found number) (upto g : ℕ) (later : Record)
-    (new : HandleState) (result : Result Bool E) → IsLegal found
-    → IfOk result (λ done. done ≡ is_unbuilt found g)
-    → OnOk result (later ≡ refreshed number upto found g) → h.inside ≡ false
-    → new ≡ record inside { inside = false; history = later.history; journal = later.journal }
-    → IfOk result (λ done. Refreshed h upto g (if done then 1 else 0) new)
-gives {h = h} {found = found} enters upto g later new (Ok done) legal answer ok outside is =
-    record {
-      found = found;
-      finds = inl (finds_it enters);
-      legal = legal;
-      counted = ap (λ (b : Bool). if b then 1 else 0) answer;
-      after = after enters new later outside is
-          ∙ ap (having h) (ok ∙ ap (λ (n : ℕ). refreshed n upto found g) (number_is enters));
-    }
-gives enters upto g later new (Err e) legal answer ok outside is = tt
-
--- or it stops in the section
-pub stops_in : {E : Type 0} {h inside : HandleState} {value found : Record} {number : ℕ}
-    (enters : Enters h inside value found number) (g : ℕ) (later : Record) (new : HandleState)
-    (result : Result Bool E) → IsLegal found
-    → OnErr result ((later ≡ found) ⊎ (later ≡ after_built number g found)) → h.inside ≡ false
-    → new ≡ record inside { inside = false; history = later.history; journal = later.journal }
-    → OnErr result (StoppedIn h g new)
-stops_in enters g later new (Ok done) legal err outside is = tt
-stops_in {h = h} {found = found} enters g later new (Err e) legal err outside is =
-    let handle : new ≡ having h later = after enters new later outside is in
-    record {
-      found = found;
-      finds = finds_it enters;
-      legal = legal;
-      after = elim err [
-        | inl same ↦ inl (handle ∙ ap (having h) same)
-        | inr built ↦
-            inr (handle ∙ ap (having h)
-            (built ∙ ap (λ (n : ℕ). after_built n g found) (number_is enters)))
-      ];
-    }
-
 -- the same of the first section
-pub freeze_stops : {T E : Type 0} {h inside : HandleState} {value found : Record} {number : ℕ}
-    (enters : Enters h inside value found number) (later : Record) (new : HandleState)
-    (result : Result T E) → IsLegal found
-    → OnErr result ((later ≡ found) ⊎ (later ≡ after_freeze number found)) → h.inside ≡ false
-    → new ≡ record inside { inside = false; history = later.history; journal = later.journal }
+pub freeze_stops : {T E : Type 0} {h new : HandleState} {found later : Record} {number : ℕ}
+    (visit : Visited h found later new) (result : Result T E) → number ≡ h.number
+    → OnErr result ((later ≡ found) ⊎ (later ≡ after_freeze number found))
     → OnErr result (FreezeStopped h new)
-freeze_stops enters later new (Ok parts) legal err outside is = tt
-freeze_stops {h = h} {found = found} enters later new (Err e) legal err outside is =
-    let handle : new ≡ having h later = after enters new later outside is in
-    record {
-      found = found;
-      finds = finds_it enters;
-      legal = legal;
-      after = elim err [
-        | inl same ↦ inl (handle ∙ ap (having h) same)
-        | inr froze ↦
-            inr (handle ∙ ap (having h)
-            (froze ∙ ap (λ (n : ℕ). after_freeze n found) (number_is enters)))
-      ];
-    }
+freeze_stops visit (Ok parts) mine err = tt
+freeze_stops {found = found} visit (Err e) mine err = record {
+  found = found;
+  finds = visit.finds;
+  legal = visit.legal;
+  after = left_as visit mine (λ n. after_freeze n found) err;
+}
 
 -- without one
 pub nothing_left : (h : HandleState) (upto g : ℕ) → IsLegal (seen_by h)

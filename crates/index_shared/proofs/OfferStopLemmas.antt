@@ -2,16 +2,15 @@
 use Rattle.std.proofs.Common.{inl, inr, ℕ, List, [], ◌∷◌, refl, sym, subst}
 use Rattle.std.proofs.Common.{Result, Ok, Err}
 use Rattle.std.specs.Prelude.{OnErr}
-use Rattle.turn_lock.specs.Handles.{Continues}
 use Rattle.index_core.specs.Records.{frozen, current}
 use Rattle.index_core.specs.Calls.{after_freeze}
 use Rattle.index_core.specs.CurrentPieces.{after_built}
-use Rattle.index_shared.specs.Sections.{HandleState, having}
+use Rattle.index_shared.specs.Sections.{HandleState, seen_by, having, Extends}
 use Rattle.index_shared.specs.Offers.{StoppedIn, StopsAt, OfferStopped}
 use Rattle.index_shared.specs.Offering.{FreezeStopped}
-use Rattle.index_shared.proofs.OfferEventLemmas.{tended_built}
-use Rattle.index_shared.proofs.OfferHandleLemmas.{continues_same, continues_on, continues_tended}
-use Rattle.index_shared.proofs.OfferHandleLemmas.{continues_refreshed}
+use Rattle.index_shared.proofs.ExtendsLemmas.{extends_same, extends_on}
+use Rattle.index_shared.proofs.OfferEventLemmas.{tended_extends, tended_built}
+use Rattle.index_shared.proofs.OfferHandleLemmas.{refreshed_extends}
 
 -- before any section
 pub stops_here : (h : HandleState) (upto : ℕ) (gs : List ℕ) → StopsAt h upto gs h
@@ -36,35 +35,39 @@ stopped_first (Err e) h h' stopped =
       ];
     }
 
--- ---- what was seen is continued
+-- ---- what was seen is extended
 
-pub continues_stopped : (h : HandleState) (g : ℕ) (h' : HandleState) → StoppedIn h g h'
-    → Continues h h'.history h'.journal
-continues_stopped h g h' stopped =
+pub stopped_extends : (h : HandleState) (g : ℕ) (h' : HandleState) → StoppedIn h g h'
+    → Extends (seen_by h) (seen_by h')
+stopped_extends h g h' stopped =
+    let found = stopped.found in
     elim stopped.after [
       | inl same ↦
-          subst (λ (x : HandleState). Continues h x.history x.journal) (sym same)
+          subst (λ (x : HandleState). Extends (seen_by h) (seen_by x)) (sym same)
           stopped.finds.later
       | inr built ↦
-          subst (λ (x : HandleState). Continues h x.history x.journal) (sym built)
-          (continues_tended h stopped.found (after_built h.number g stopped.found) h.number 1
-          stopped.finds.later (tended_built h.number g stopped.found))
+          let later = after_built h.number g found in
+          subst (λ (x : HandleState). Extends (seen_by h) (seen_by x)) (sym built)
+          (extends_on (seen_by h) found later stopped.finds.later
+          (tended_extends h.number 1 found later (tended_built h.number g found)))
     ]
 
-pub continues_stops : (h : HandleState) (upto : ℕ) (gs : List ℕ) (h' : HandleState)
-    → StopsAt h upto gs h' → Continues h h'.history h'.journal
-continues_stops h upto [] h' stops =
-    subst (λ (x : HandleState). Continues h x.history x.journal) (sym stops) (continues_same h)
-continues_stops h upto (g ∷ gs) h' stops =
+pub stops_extends : (h : HandleState) (upto : ℕ) (gs : List ℕ) (h' : HandleState)
+    → StopsAt h upto gs h' → Extends (seen_by h) (seen_by h')
+stops_extends h upto [] h' stops =
+    subst (λ (x : HandleState). Extends (seen_by h) (seen_by x)) (sym stops)
+    (extends_same (seen_by h))
+stops_extends h upto (g ∷ gs) h' stops =
     elim stops [
       | inl same ↦
-          subst (λ (x : HandleState). Continues h x.history x.journal) (sym same)
-          (continues_same h)
+          subst (λ (x : HandleState). Extends (seen_by h) (seen_by x)) (sym same)
+          (extends_same (seen_by h))
       | inr later ↦
           elim later [
-            | inl stopped ↦ continues_stopped h g h' stopped
+            | inl stopped ↦ stopped_extends h g h' stopped
             | inr more ↦
-                continues_on h more.0 h' (continues_refreshed h upto g more.1 more.0 more.2)
-                (continues_stops more.0 upto gs h' more.3)
+                extends_on (seen_by h) (seen_by more.0) (seen_by h')
+                (refreshed_extends h upto g more.1 more.0 more.2)
+                (stops_extends more.0 upto gs h' more.3)
           ]
     ]

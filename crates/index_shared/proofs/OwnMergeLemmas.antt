@@ -21,8 +21,8 @@ use Rattle.index_core.proofs.KnownMergeLemmas.{open_once}
 use Rattle.index_core.proofs.OpenMergeLemmas.{new_merge, begun_merges-begin, open_merges-close}
 use Rattle.index_shared.specs.Sections.{caller_of, seen_by}
 use Rattle.index_shared.specs.OwnViews.{merges_by, OwnMergesStay}
-use Rattle.index_shared.proofs.ListLemmas.{none_passes, other_more, without_other}
-use Rattle.index_shared.proofs.WalkLemmas.{AtEvent, along}
+use Rattle.index_shared.proofs.ListLemmas.{other_more, without_other}
+use Rattle.index_shared.proofs.WalkLemmas.{AtEvent, others_stay}
 
 abbrev merges_of : ℕ → List HistoryEvent → List Merge
 merges_of c h = filter (λ m. nat_eq m.caller c) (open_merges h)
@@ -71,10 +71,7 @@ pub merges_stay : (c : ℕ) (first r : Record) (more : List HistoryEvent)
     → r.history ≡ first.history ++ more → own caller_of c more ≡ [] → IsLegal r
     → merges_by c r ≡ merges_by c first
 merges_stay c first r more is none legal =
-    along r legal (λ xs. merges_of c xs ≡ merges_of c first.history)
-    (λ e. nat_eq (caller_of e) c ≡ false)
-    (λ xs e at other same. merges_after c xs e at other ∙ same)
-    first.history more is (none_passes (λ e. nat_eq (caller_of e) c) more none) refl
+    others_stay c (merges_of c) (merges_after c) first r more is none legal
 
 pub own_merges_stay : OwnMergesStay
 own_merges_stay h found finds legal =

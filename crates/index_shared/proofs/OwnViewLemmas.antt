@@ -3,18 +3,25 @@ use Rattle.std.proofs.Common.{◌≡◌, ℕ, false, nat_eq, List, [], ◌∷◌
 use Rattle.std.specs.Prelude.{filter, not}
 use Rattle.std.specs.List.{filter_map}
 use Rattle.std.proofs.lemmas.List.Elements.{filter_map-append}
+use Rattle.segment.specs.Views.{PlainParts}
+use Rattle.sg_view.specs.Viewing.{PlainView, IsViewOf}
 use Rattle.turn_lock.specs.Handles.{own}
 use Rattle.index_core.specs.Histories.{HistoryEvent, begin, view_end, Record, View, is_among}
 use Rattle.index_core.specs.Histories.{begun_view, ended_view, begun_views, open_views}
 use Rattle.index_core.specs.LegalHistories.{IsLegal}
-use Rattle.index_core.specs.OpenViews.{without}
+use Rattle.index_core.specs.OpenViews.{view_of, without}
 use Rattle.index_core.proofs.HeldLemmas.{open_once}
 use Rattle.index_core.proofs.HistoryLemmas.{skips}
 use Rattle.index_core.proofs.ViewLemmas.{open_views-skip, open_views-end}
 use Rattle.index_shared.specs.Sections.{caller_of, seen_by}
-use Rattle.index_shared.specs.OwnViews.{open_by, OwnViewsStay}
-use Rattle.index_shared.proofs.ListLemmas.{none_passes, other_more, without_other}
-use Rattle.index_shared.proofs.WalkLemmas.{AtEvent, along}
+use Rattle.index_shared.specs.OwnViews.{open_by, view_in, OwnViewsStay}
+use Rattle.index_shared.proofs.ListLemmas.{other_more, without_other}
+use Rattle.index_shared.proofs.WalkLemmas.{AtEvent, others_stay}
+
+-- the view that is built of parts is the open one that these are of
+pub view_in-view_of : (caller : ℕ) (parts : PlainParts) (v : PlainView) → IsViewOf parts v
+    → view_in caller v ≡ view_of caller parts
+view_in-view_of caller parts v is = rw (is.number, is.upto, is.generations) refl
 
 abbrev views_of : ℕ → List HistoryEvent → List View
 views_of c h = filter (λ v. nat_eq v.caller c) (open_views h)
@@ -51,10 +58,7 @@ pub views_stay : (c : ℕ) (first r : Record) (more : List HistoryEvent)
     → r.history ≡ first.history ++ more → own caller_of c more ≡ [] → IsLegal r
     → open_by c r ≡ open_by c first
 views_stay c first r more is none legal =
-    along r legal (λ xs. views_of c xs ≡ views_of c first.history)
-    (λ e. nat_eq (caller_of e) c ≡ false)
-    (λ xs e at other same. views_after c xs e at other ∙ same)
-    first.history more is (none_passes (λ e. nat_eq (caller_of e) c) more none) refl
+    others_stay c (views_of c) (views_after c) first r more is none legal
 
 pub own_views_stay : OwnViewsStay
 own_views_stay h found finds legal =

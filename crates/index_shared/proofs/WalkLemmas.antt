@@ -1,12 +1,14 @@
 -- Legal records event by event: what stands before each, and what later events of others keep.
-use Rattle.std.proofs.Common.{◌≡◌, ◌≤◌, ◌+◌, ℕ, zero, suc, Some, List, [], ◌∷◌, ◌++◌, length, take}
-use Rattle.std.proofs.Common.{refl, sym, ap, ◌∙◌, subst, arith, length-append, append-nil}
+use Rattle.std.proofs.Common.{◌≡◌, ◌≤◌, ◌+◌, ℕ, zero, suc, false, nat_eq, Some, List, [], ◌∷◌}
+use Rattle.std.proofs.Common.{◌++◌, length, take, refl, sym, ap, ◌∙◌, subst, arith, length-append}
+use Rattle.std.proofs.Common.{append-nil}
 use Rattle.std.specs.Prelude.{slice_get}
 use Rattle.std.specs.List.{AllByRecursion}
 use Rattle.std.proofs.lemmas.List.{append_assoc}
 use Rattle.std.proofs.Math.Seq.{take-append_seam}
 use Rattle.std.proofs.lemmas.List.Elements.{filter_map-append}
 use Rattle.sg_paths.specs.Operations.{PlainOp}
+use Rattle.turn_lock.specs.Handles.{own}
 use Rattle.index_core.specs.Histories.{HistoryEvent, begin, Record, View, begun_view, begun_views}
 use Rattle.index_core.specs.Histories as events
 use Rattle.index_core.specs.LegalHistories.{MeetsLine, IsLegal}
@@ -16,6 +18,8 @@ use Rattle.index_core.proofs.KnownLemmas.{take_next}
 use Rattle.index_core.proofs.SoundLemmas.{IsSound}
 use Rattle.index_core.proofs.SoundRecordLemmas.{first_sound}
 use Rattle.index_core.proofs.ViewLemmas.{AreViewsFrom-more}
+use Rattle.index_shared.specs.Sections.{caller_of}
+use Rattle.index_shared.proofs.ListLemmas.{none_passes}
 
 -- ---- begun views are numbered
 
@@ -93,3 +97,14 @@ module _ (r : Record) (legal : IsLegal r) (P : List HistoryEvent → Type 0)
   along xs (y ∷ ys) is all here =
       along (xs ++ y ∷ []) ys (is ∙ sym (append_assoc xs (y ∷ []) ys)) all.1
       (step xs y (at_event r legal xs y ys is) all.0 here)
+
+-- what no event of others changes stays as it was
+pub others_stay : {X : Type 0} (c : ℕ) (of : List HistoryEvent → List X)
+    → ((xs : List HistoryEvent) (e : HistoryEvent) → AtEvent xs e
+    → nat_eq (caller_of e) c ≡ false → of (xs ++ e ∷ []) ≡ of xs)
+    → (first r : Record) (more : List HistoryEvent) → r.history ≡ first.history ++ more
+    → own caller_of c more ≡ [] → IsLegal r → of r.history ≡ of first.history
+others_stay c of step first r more is none legal =
+    along r legal (λ xs. of xs ≡ of first.history) (λ e. nat_eq (caller_of e) c ≡ false)
+    (λ xs e at other same. step xs e at other ∙ same)
+    first.history more is (none_passes (λ e. nat_eq (caller_of e) c) more none) refl

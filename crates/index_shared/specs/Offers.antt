@@ -4,7 +4,7 @@
 use Rattle.std.specs.Prelude.{◌≡◌, ◌≤◌, ◌⊎◌, ⊤, ℕ, ◌+◌, Bool, true, false, not, if◌then◌else◌}
 use Rattle.std.specs.Prelude.{List, [], ◌∷◌, ◌++◌, length, filter, fold, count_by}
 use Rattle.std.specs.List.{AllByRecursion}
-use Rattle.turn_lock.specs.Handles.{own, Continues}
+use Rattle.turn_lock.specs.Handles.{own}
 use Rattle.index_core.specs.Histories.{HistoryEvent, freeze, built, live_docs_updated, Record}
 use Rattle.index_core.specs.Histories.{is_among}
 use Rattle.index_core.specs.Records.{frozen, current}
@@ -13,6 +13,7 @@ use Rattle.index_core.specs.LegalHistories.{IsLegal}
 use Rattle.index_core.specs.Calls.{after_freeze}
 use Rattle.index_core.specs.CurrentPieces.{is_unbuilt, after_built, after_lived}
 use Rattle.index_shared.specs.Sections.{caller_of, HandleState, seen_by, having, FindsRecord}
+use Rattle.index_shared.specs.Sections.{Extends}
 
 -- ---- one record, for callers that are alone with it
 
@@ -100,9 +101,16 @@ IsUpkeep (built caller generation) = ⊤
 IsUpkeep (live_docs_updated caller generation applied) = ⊤
 IsUpkeep _ = ⊥
 
+-- a later record, with events of a flush alone: nothing was accepted, begun or ended
+pub record AddsUpkeep (r later : Record) : Type 0 where
+  pub events : List HistoryEvent
+  pub upkeep : AllByRecursion IsUpkeep events
+  pub history_is : later.history ≡ r.history ++ events
+  pub journal_is : later.journal ≡ r.journal
+
 -- of what a handle has seen since, its own events are those of a flush
 pub record UpkeepAlone (h : HandleState) (seen : Record) : Type 0 where
-  pub later : Continues h seen.history seen.journal
+  pub later : Extends (seen_by h) seen
   pub upkeep : AllByRecursion IsUpkeep (own caller_of h.number later.events)
 
 -- whether it gives a generation its segment

@@ -1,8 +1,8 @@
 -- Handles of an index that is shared, the record that each has seen, and the one that a critical
 -- section finds. Source: this project's own.
-use Rattle.std.specs.Prelude.{◌≡◌, ℕ, false, List, ◌++◌}
+use Rattle.std.specs.Prelude.{◌≡◌, ℕ, false}
 use Rattle.sg_paths.specs.Operations.{PlainOp}
-use Rattle.turn_lock.specs.Handles.{LockId, Handle, Finds}
+use Rattle.turn_lock.specs.Handles.{LockId, Handle, Continues, Finds}
 use Rattle.index_core.specs.Histories.{HistoryEvent, accept, freeze, begin, built}
 use Rattle.index_core.specs.Histories.{live_docs_updated, merge_begin, merge_end, merge_drop}
 use Rattle.index_core.specs.Histories.{view_end, Record}
@@ -44,9 +44,6 @@ IsSameHandle old new = new ≡ having old (seen_by new)
 abbrev pub FindsRecord : HandleState → Record → Type 0
 FindsRecord h found = Finds caller_of h found.history found.journal
 
--- a later record: what was known, and then more. Laws and proofs cite it, and no public clause
-pub record Extends (r later : Record) : Type 0 where
-  pub events : List HistoryEvent
-  pub operations : List PlainOp
-  pub history_is : later.history ≡ r.history ++ events
-  pub journal_is : later.journal ≡ r.journal ++ operations
+-- a later record: what was known, and then more
+abbrev pub Extends : Record → Record → Type 0
+Extends r later = Continues r.history r.journal later.history later.journal

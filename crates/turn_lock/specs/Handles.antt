@@ -56,26 +56,26 @@ pub record Entered {E O V : Type 0} (h : Handle E O) (section : Section V) : Typ
   pub number : section.number ≡ h.number
   pub found : section.found ≡ length h.history
 
--- a record that continues the one that a handle has observed, by these events and operations
-pub record Continues {E O : Type 0} (h : Handle E O) (history : List E) (journal : List O)
-    : Type 0 where
+-- a history and a journal that continue earlier ones, by these events and operations
+pub record Continues {E O : Type 0} (earlier : List E) (kept : List O) (history : List E)
+    (journal : List O) : Type 0 where
   pub events : List E
   pub operations : List O
-  pub history_is : history ≡ h.history ++ events
-  pub journal_is : journal ≡ h.journal ++ operations
+  pub history_is : history ≡ earlier ++ events
+  pub journal_is : journal ≡ kept ++ operations
 
 module _ {E O : Type 0} (caller : E → ℕ) where
   -- the record that a critical section finds: it continues the observed one, by no event of the
   -- handle's own, and each of its events was appended through a handle of this lock
   pub record Finds (h : Handle E O) (history : List E) (journal : List O) : Type 0 where
-    pub later : Continues h history journal
+    pub later : Continues h.history h.journal history journal
     pub others : own caller h.number later.events ≡ []
     pub callers : AllByRecursion (λ e. caller e < h.seats) history
 
   -- the record that a critical section may leave: it continues the one found, by at most three
   -- events, each of them the handle's own
   pub record Leaves (h : Handle E O) (history : List E) (journal : List O) : Type 0 where
-    pub later : Continues h history journal
+    pub later : Continues h.history h.journal history journal
     pub few : length later.events ≤ 3
     pub own_alone : AllByRecursion (λ e. caller e ≡ h.number) later.events
 
@@ -84,6 +84,6 @@ module _ {E O : Type 0} (caller : E → ℕ) where
   pub record Met (from to : Handle E O) (history : List E) (journal : List O) : Type 0 where
     pub longer : ((history ≡ from.history) × (journal ≡ from.journal))
         ⊎ ((history ≡ to.history) × (journal ≡ to.journal))
-    pub later_from : Continues from history journal
-    pub later_to : Continues to history journal
+    pub later_from : Continues from.history from.journal history journal
+    pub later_to : Continues to.history to.journal history journal
     pub others : own caller to.number later_to.events ≡ []

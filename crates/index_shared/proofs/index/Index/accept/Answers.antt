@@ -1,8 +1,9 @@
 -- The section is the core's accept over the record found.
 use Rattle.sg_paths.specs.Operations.{plain_op}
-use Rattle.index_shared.proofs.SectionLemmas.{Enters, entering, leaves}
-use Rattle.index_shared.proofs.CallLemmas.{LeavesMerges, accept_leaves, same_views, same_merges}
-use Rattle.index_shared.proofs.CallLemmas.{keeps}
+use Rattle.index_shared.proofs.AppendedLemmas.{LeavesMerges, accept_leaves}
+use Rattle.index_shared.proofs.MergeCallLemmas.{same_merges, keeps}
+use Rattle.index_shared.proofs.SectionLemmas.{Enters, entering, leaves, Visited, visited}
+use Rattle.index_shared.proofs.ViewCallLemmas.{same_views}
 use Rattle.index_shared.proofs.index.Index.accept.Given.{Over}
 use Rattle.index_shared.proofs.index.Index.accept.Goals as goal
 
@@ -29,18 +30,17 @@ give-requires-clause-leaves g c =
     c.accept-answer.new.self c.accept-answer.ensures.ok c.accept-answer.ensures.err in
     leaves enters c.accept-answer.new.self left.more
 
+section : (g : Over) (c : goal.After-give g)
+    → Visited c.args.handle.now c.value.result.now c.accept-answer.new.self c.give.new.pass
+section g c =
+    visited (entered g c) c.requires.at.1 c.give.ensures.handle c.accept-answer.ensures.before
+
 pub returns-clause-views : goal.returns-clause-views
-returns-clause-views g c =
-    same_views (entered g c) c.requires.at.1 c.give.new.pass c.accept-answer.new.self
-    c.give.ensures.handle c.accept-answer.ensures.before c.accept-answer.ensures.views
+returns-clause-views g c = same_views (section g c) c.accept-answer.ensures.views
 
 pub returns-clause-merges : goal.returns-clause-merges
-returns-clause-merges g c =
-    same_merges (entered g c) c.requires.at.1 c.give.new.pass c.accept-answer.new.self
-    c.give.ensures.handle c.accept-answer.ensures.before (left g c).merges
+returns-clause-merges g c = same_merges (section g c) (left g c).merges
 
 pub returns-clause-keeps : goal.returns-clause-keeps
 returns-clause-keeps g c =
-    keeps (entered g c) c.requires.at.1 c.give.new.pass c.accept-answer.new.self
-    c.give.ensures.handle c.accept-answer.ensures.before (left g c).more
-    c.accept-answer.ensures.legal (left g c).merges
+    keeps (section g c) (left g c).more c.accept-answer.ensures.legal (left g c).merges

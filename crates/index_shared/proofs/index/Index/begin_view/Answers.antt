@@ -1,9 +1,10 @@
 -- The section is the core's begin of a view over the record found.
 use Rattle.std.proofs.Common.{refl}
 use Rattle.index_core.specs.OpenViews.{view_of}
-use Rattle.index_shared.proofs.SectionLemmas.{Enters, entering, finds_it, number_is, leaves}
-use Rattle.index_shared.proofs.CallLemmas.{LeavesMerges, begin_leaves, view_begun, no_view}
-use Rattle.index_shared.proofs.CallLemmas.{view_fresh, now_is, same_merges, keeps}
+use Rattle.index_shared.proofs.AppendedLemmas.{LeavesMerges, begin_leaves}
+use Rattle.index_shared.proofs.MergeCallLemmas.{same_merges, keeps}
+use Rattle.index_shared.proofs.SectionLemmas.{Enters, entering, number_is, leaves, Visited, visited}
+use Rattle.index_shared.proofs.ViewCallLemmas.{view_begun, view_fresh, no_view}
 use Rattle.index_shared.proofs.index.Index.begin_view.Given.{Over}
 use Rattle.index_shared.proofs.index.Index.begin_view.Goals as goal
 
@@ -30,39 +31,28 @@ give-requires-clause-leaves g c =
     c.begin_view-answer.new.self c.begin_view-answer.ensures.ok c.begin_view-answer.ensures.err in
     leaves enters c.begin_view-answer.new.self left.more
 
+section : (g : Over) (c : goal.After-give g)
+    → Visited c.args.handle.now c.value.result.now c.begin_view-answer.new.self c.give.new.pass
+section g c =
+    visited (entered g c) c.requires.at.1 c.give.ensures.handle c.begin_view-answer.ensures.before
+
 pub returns-clause-views : goal.returns-clause-views
 returns-clause-views g c =
-    view_begun c.args.handle.now c.give.new.pass c.number.result c.value.result.now
-    c.begin_view-answer.new.self c.begin_view-answer.result view_of
-    (now_is (entered g c) c.requires.at.1 c.give.new.pass c.begin_view-answer.new.self
-    c.give.ensures.handle c.begin_view-answer.ensures.before)
-    (number_is (entered g c)) (finds_it (entered g c)) c.begin_view-answer.ensures.before
-    (λ n p. refl) c.begin_view-answer.ensures.opened
+    view_begun (section g c) c.number.result c.begin_view-answer.result view_of
+    (number_is (entered g c)) (λ n p. refl) c.begin_view-answer.ensures.opened
 
 pub returns-clause-fresh : goal.returns-clause-fresh
 returns-clause-fresh g c =
-    view_fresh c.args.handle.now c.give.new.pass c.value.result.now
-    c.begin_view-answer.new.self c.begin_view-answer.result (λ t. t.number)
-    (now_is (entered g c) c.requires.at.1 c.give.new.pass c.begin_view-answer.new.self
-    c.give.ensures.handle c.begin_view-answer.ensures.before)
-    (finds_it (entered g c)) c.begin_view-answer.ensures.before
+    view_fresh (section g c) c.begin_view-answer.result (λ t. t.number)
     c.begin_view-answer.ensures.others
 
 pub returns-clause-no_view : goal.returns-clause-no_view
 returns-clause-no_view g c =
-    no_view c.args.handle.now c.give.new.pass c.value.result.now c.begin_view-answer.new.self
-    c.begin_view-answer.result
-    (now_is (entered g c) c.requires.at.1 c.give.new.pass c.begin_view-answer.new.self
-    c.give.ensures.handle c.begin_view-answer.ensures.before)
-    (finds_it (entered g c)) c.begin_view-answer.ensures.before c.begin_view-answer.ensures.err
+    no_view (section g c) c.begin_view-answer.result c.begin_view-answer.ensures.err
 
 pub returns-clause-merges : goal.returns-clause-merges
-returns-clause-merges g c =
-    same_merges (entered g c) c.requires.at.1 c.give.new.pass c.begin_view-answer.new.self
-    c.give.ensures.handle c.begin_view-answer.ensures.before (left g c).merges
+returns-clause-merges g c = same_merges (section g c) (left g c).merges
 
 pub returns-clause-keeps : goal.returns-clause-keeps
 returns-clause-keeps g c =
-    keeps (entered g c) c.requires.at.1 c.give.new.pass c.begin_view-answer.new.self
-    c.give.ensures.handle c.begin_view-answer.ensures.before (left g c).more
-    c.begin_view-answer.ensures.legal (left g c).merges
+    keeps (section g c) (left g c).more c.begin_view-answer.ensures.legal (left g c).merges

@@ -7,10 +7,12 @@ use Rattle.index_core.specs.Histories.{Record}
 use Rattle.index_core.specs.Records.{open_merges}
 use Rattle.index_core.specs.MergeCalls.{merge_of, without_merge}
 use Rattle.index_shared.specs.SharedCalls.{Committed}
-use Rattle.index_shared.proofs.SectionLemmas.{Enters, entering, OwnMore, finds_it, number_is}
-use Rattle.index_shared.proofs.SectionLemmas.{leaves}
-use Rattle.index_shared.proofs.CallLemmas.{commit_leaves, merge_found, worked_found, committed}
-use Rattle.index_shared.proofs.CallLemmas.{seen_is, same_views, fewer_merges, keeps_other}
+use Rattle.index_shared.proofs.AppendedLemmas.{OwnMore, commit_leaves}
+use Rattle.index_shared.proofs.MergeCallLemmas.{merge_found, worked_found, committed}
+use Rattle.index_shared.proofs.MergeCallLemmas.{fewer_merges, keeps_other}
+use Rattle.index_shared.proofs.SectionLemmas.{Enters, entering, finds_it, number_is, leaves}
+use Rattle.index_shared.proofs.SectionLemmas.{Visited, visited, seen_is}
+use Rattle.index_shared.proofs.ViewCallLemmas.{same_views}
 use Rattle.index_shared.proofs.index.Index.commit_merge.Given.{Over}
 use Rattle.index_shared.proofs.index.Index.commit_merge.Goals as goal
 
@@ -68,33 +70,29 @@ give-requires-clause-leaves g c =
     c.value.result.now c.commit_merge-freed.new.self c.commit_merge-freed.ensures.ok in
     leaves enters c.commit_merge-freed.new.self left
 
+section : (g : Over) (c : goal.After-give g)
+    → Visited c.args.handle.now c.value.result.now c.commit_merge-freed.new.self c.give.new.pass
+section g c =
+    visited (entered g c) c.requires.at.1 c.give.ensures.handle c.commit_merge-freed.ensures.before
+
 pub returns-clause-ended : goal.returns-clause-ended
 returns-clause-ended g c =
     let h = c.args.handle.now in
     let e = c.commit_merge-freed.ensures in
     subst (λ (r : Record). Committed h (merge_of h.number c.args.done.parts)
-    c.commit_merge-freed.result.gens.items r)
-    (sym (seen_is (entered g c) c.requires.at.1 c.give.new.pass c.commit_merge-freed.new.self
-    c.give.ensures.handle e.before))
+    c.commit_merge-freed.result.gens.items r) (sym (seen_is (section g c)))
     (committed h c.number.result c.args.done.parts c.parts-parts.result.0
     c.commit_merge-freed.result.gens.items c.value.result.now c.commit_merge-freed.new.self
     (number_is (entered g c)) c.parts-parts.ensures.parts (finds_it (entered g c)) e.before e.freed
     e.ok)
 
 pub returns-clause-views : goal.returns-clause-views
-returns-clause-views g c =
-    same_views (entered g c) c.requires.at.1 c.give.new.pass c.commit_merge-freed.new.self
-    c.give.ensures.handle c.commit_merge-freed.ensures.before
-    c.commit_merge-freed.ensures.views
+returns-clause-views g c = same_views (section g c) c.commit_merge-freed.ensures.views
 
 pub returns-clause-merges : goal.returns-clause-merges
-returns-clause-merges g c =
-    fewer_merges (entered g c) c.requires.at.1 c.give.new.pass c.commit_merge-freed.new.self
-    c.give.ensures.handle c.commit_merge-freed.ensures.before c.args.done.parts.number
-    (fewer g c)
+returns-clause-merges g c = fewer_merges (section g c) c.args.done.parts.number (fewer g c)
 
 pub returns-clause-keeps : goal.returns-clause-keeps
 returns-clause-keeps g c =
-    keeps_other (entered g c) c.requires.at.1 c.give.new.pass c.commit_merge-freed.new.self
-    c.give.ensures.handle c.commit_merge-freed.ensures.before (left g c)
-    c.commit_merge-freed.ensures.legal c.args.done.parts.number (fewer g c)
+    keeps_other (section g c) (left g c) c.commit_merge-freed.ensures.legal
+    c.args.done.parts.number (fewer g c)

@@ -4,10 +4,11 @@ use Rattle.std.specs.Prelude.{Contains}
 use Rattle.segment.specs.Views.{PlainParts}
 use Rattle.index_core.specs.Records.{open_merges}
 use Rattle.index_core.specs.MergeCalls.{merge_of, without_merge}
-use Rattle.index_shared.proofs.SectionLemmas.{Enters, entering, OwnMore, finds_it, number_is}
-use Rattle.index_shared.proofs.SectionLemmas.{leaves}
-use Rattle.index_shared.proofs.CallLemmas.{drop_leaves, merge_found, same_views, fewer_merges}
-use Rattle.index_shared.proofs.CallLemmas.{keeps_other}
+use Rattle.index_shared.proofs.AppendedLemmas.{OwnMore, drop_leaves}
+use Rattle.index_shared.proofs.MergeCallLemmas.{merge_found, fewer_merges, keeps_other}
+use Rattle.index_shared.proofs.SectionLemmas.{Enters, entering, finds_it, number_is, leaves}
+use Rattle.index_shared.proofs.SectionLemmas.{Visited, visited}
+use Rattle.index_shared.proofs.ViewCallLemmas.{same_views}
 use Rattle.index_shared.proofs.index.Index.drop_merge.Given.{Over}
 use Rattle.index_shared.proofs.index.Index.drop_merge.Goals as goal
 
@@ -55,18 +56,17 @@ give-requires-clause-leaves g c =
     c.drop_merge.new.self c.drop_merge.ensures.ok in
     leaves enters c.drop_merge.new.self left
 
+section : (g : Over) (c : goal.After-give g)
+    → Visited c.args.handle.now c.value.result.now c.drop_merge.new.self c.give.new.pass
+section g c =
+    visited (entered g c) c.requires.at.1 c.give.ensures.handle c.drop_merge.ensures.before
+
 pub returns-clause-views : goal.returns-clause-views
-returns-clause-views g c =
-    same_views (entered g c) c.requires.at.1 c.give.new.pass c.drop_merge.new.self
-    c.give.ensures.handle c.drop_merge.ensures.before c.drop_merge.ensures.views
+returns-clause-views g c = same_views (section g c) c.drop_merge.ensures.views
 
 pub returns-clause-merges : goal.returns-clause-merges
-returns-clause-merges g c =
-    fewer_merges (entered g c) c.requires.at.1 c.give.new.pass c.drop_merge.new.self
-    c.give.ensures.handle c.drop_merge.ensures.before c.args.job.number (fewer g c)
+returns-clause-merges g c = fewer_merges (section g c) c.args.job.number (fewer g c)
 
 pub returns-clause-keeps : goal.returns-clause-keeps
 returns-clause-keeps g c =
-    keeps_other (entered g c) c.requires.at.1 c.give.new.pass c.drop_merge.new.self
-    c.give.ensures.handle c.drop_merge.ensures.before (left g c) c.drop_merge.ensures.legal
-    c.args.job.number (fewer g c)
+    keeps_other (section g c) (left g c) c.drop_merge.ensures.legal c.args.job.number (fewer g c)

@@ -3,9 +3,11 @@ use Rattle.std.proofs.Common.{ℕ, sym, subst}
 use Rattle.std.specs.Prelude.{Contains}
 use Rattle.index_core.specs.Records.{open_views}
 use Rattle.index_core.specs.OpenViews.{view_of}
+use Rattle.index_shared.proofs.AppendedLemmas.{LeavesMerges, end_leaves}
+use Rattle.index_shared.proofs.MergeCallLemmas.{same_merges, keeps}
 use Rattle.index_shared.proofs.SectionLemmas.{Enters, entering, finds_it, number_is, leaves}
-use Rattle.index_shared.proofs.CallLemmas.{LeavesMerges, end_leaves, view_found, fewer_views}
-use Rattle.index_shared.proofs.CallLemmas.{same_merges, keeps}
+use Rattle.index_shared.proofs.SectionLemmas.{Visited, visited}
+use Rattle.index_shared.proofs.ViewCallLemmas.{view_found, fewer_views}
 use Rattle.index_shared.proofs.index.Index.end.Given.{Over}
 use Rattle.index_shared.proofs.index.Index.end.Goals as goal
 
@@ -42,19 +44,18 @@ give-requires-clause-leaves g c =
     c.end_view-freed.ensures.ok in
     leaves enters c.end_view-freed.new.self left.more
 
+section : (g : Over) (c : goal.After-give g)
+    → Visited c.args.handle.now c.value.result.now c.end_view-freed.new.self c.give.new.pass
+section g c =
+    visited (entered g c) c.requires.at.1 c.give.ensures.handle c.end_view-freed.ensures.before
+
 pub returns-clause-views : goal.returns-clause-views
 returns-clause-views g c =
-    fewer_views (entered g c) c.requires.at.1 c.give.new.pass c.end_view-freed.new.self
-    c.give.ensures.handle c.end_view-freed.ensures.before c.args.parts.number
-    c.end_view-freed.ensures.ended
+    fewer_views (section g c) c.args.parts.number c.end_view-freed.ensures.ended
 
 pub returns-clause-merges : goal.returns-clause-merges
-returns-clause-merges g c =
-    same_merges (entered g c) c.requires.at.1 c.give.new.pass c.end_view-freed.new.self
-    c.give.ensures.handle c.end_view-freed.ensures.before (left g c).merges
+returns-clause-merges g c = same_merges (section g c) (left g c).merges
 
 pub returns-clause-keeps : goal.returns-clause-keeps
 returns-clause-keeps g c =
-    keeps (entered g c) c.requires.at.1 c.give.new.pass c.end_view-freed.new.self
-    c.give.ensures.handle c.end_view-freed.ensures.before (left g c).more
-    c.end_view-freed.ensures.legal (left g c).merges
+    keeps (section g c) (left g c).more c.end_view-freed.ensures.legal (left g c).merges

@@ -1,6 +1,6 @@
 -- What a handle has open is open in the longer history.
 use Rattle.std.proofs.Common.{sym, subst}
-use Rattle.index_shared.specs.Sections.{HandleState, seen_by, Extends}
+use Rattle.index_shared.specs.Sections.{HandleState, seen_by}
 use Rattle.index_shared.specs.OwnViews.{HasMerge}
 use Rattle.index_shared.proofs.OwnViewLemmas.{views_stay}
 use Rattle.index_shared.proofs.OwnMergeLemmas.{merges_stay}
@@ -22,13 +22,7 @@ returns-clause-merges c = λ legal.
 pub returns-clause-keeps : goal.returns-clause-keeps
 returns-clause-keeps c = λ legal parts has.
     let met = c.meet.ensures.met in
-    let later : Extends (seen_by c.args.to.now) (seen_by c.meet.new.to) = record {
-      events = met.later_to.events;
-      operations = met.later_to.operations;
-      history_is = met.later_to.history_is;
-      journal_is = met.later_to.journal_is;
-    } in
     subst (λ (x : HandleState). HasMerge x parts) (sym c.meet.ensures.handle)
-    (has_same c.args.to.now (seen_by c.meet.new.to) later legal
+    (has_same c.args.to.now (seen_by c.meet.new.to) met.later_to legal
     (merges_stay c.args.to.now.number (seen_by c.args.to.now) (seen_by c.meet.new.to)
     met.later_to.events met.later_to.history_is met.others legal) parts has)
