@@ -1,6 +1,6 @@
 -- One thread has both handles, so a critical section finds what was seen: main, which meets the
 -- worker after each call and has no event of its own, knows of all events.
-use Rattle.std.proofs.Common.{◌≡◌, ℕ, [], ◌∷◌, ◌++◌, List, length, refl, sym, ap, ◌∙◌, subst}
+use Rattle.std.proofs.Common.{◌≡◌, ℕ, [], ◌++◌, List, length, refl, sym, ap, ◌∙◌, subst}
 use Rattle.std.proofs.Common.{arith, inl, inr, nat_eq}
 use Rattle.std.proofs.lemmas.List.{append-nil, append_assoc, append_cancel_left, length-append}
 use Rattle.std.proofs.lemmas.List.Elements.{filter-append}
@@ -11,15 +11,11 @@ use Rattle.index_core.specs.LegalHistories.{IsLegal}
 use Rattle.index_core.proofs.ListLemmas.{no_items}
 use Rattle.index_shared.specs.Sections.{HandleState, seen_by, IsSameHandle, caller_of, FindsRecord}
 use Rattle.index_shared.specs.Sections.{Extends}
-use Rattle.index_shared.proofs.OfferAloneLemmas.{found_is_seen}
+use Rattle.index_shared.proofs.ExtendsLemmas.{extends_same, extends_on}
+use Rattle.index_shared.proofs.OfferAloneLemmas.{first_none, found_is_seen}
 use Rattle.index_single.specs.Handles.{AreAlone}
 
 -- ---- lists
-
--- where both together are nothing, the first is
-first_nothing : {X : Type 0} (xs ys : List X) → xs ++ ys ≡ [] → xs ≡ []
-first_nothing [] ys none = refl
-first_nothing (x ∷ xs) ys none = absurd (cc)
 
 -- two lists of which each begins with the other are one
 both_ways : {X : Type 0} (xs ys more less : List X) → ys ≡ xs ++ more → xs ≡ ys ++ less → xs ≡ ys
@@ -30,14 +26,6 @@ both_ways {X} xs ys more less longer shorter =
     let d = length-append ys less in
     sym (longer ∙ ap (λ (zs : List X). xs ++ zs) (no_items more (omega (arith, a, b, c, d)))
     ∙ append-nil xs)
-
-pub extends_same : (r : Record) → Extends r r
-extends_same r = record {
-  events = [];
-  operations = [];
-  history_is = sym (append-nil r.history);
-  journal_is = sym (append-nil r.journal);
-}
 
 -- ---- a call, and the meeting after it
 
@@ -61,7 +49,7 @@ module _ (index : LockId) (main worker main' worker' : HandleState)
       ∙ append_assoc worker.history more behind) in
       let none : own caller_of 0 gained ≡ [] =
       subst (λ (n : ℕ). own caller_of n gained ≡ []) alone.main_number met.others in
-      first_nothing (own caller_of 0 more) (own caller_of 0 behind)
+      first_none (own caller_of 0 more) (own caller_of 0 behind)
       (sym (filter-append (λ e. nat_eq (caller_of e) 0) more behind)
       ∙ ap (own caller_of 0) (sym whole) ∙ none)
 
@@ -69,24 +57,15 @@ module _ (index : LockId) (main worker main' worker' : HandleState)
   pub found_alone : (found : Record) → FindsRecord worker found → IsLegal found
       → Extends found (seen_by worker') → found ≡ seen_by worker
   found_alone found finds legal later =
-      let more = finds.later.events ++ later.events in
-      let is : worker'.history ≡ worker.history ++ more =
-      later.history_is
-      ∙ ap (λ (h : List HistoryEvent). h ++ later.events) finds.later.history_is
-      ∙ append_assoc worker.history finds.later.events later.events in
+      let both = extends_on (seen_by worker) found (seen_by worker') finds.later later in
       found_is_seen worker worker' (record {
         seats = alone.seats;
         number = alone.number;
         numbered = alone.legal.numbered;
-        more = more;
-        history_is = is;
-        quiet = quiet more is;
-      }) found finds legal (record {
-        events = later.events;
-        operations = later.operations;
-        history_is = later.history_is;
-        journal_is = later.journal_is;
-      })
+        more = both.events;
+        history_is = both.history_is;
+        quiet = quiet both.events both.history_is;
+      }) found finds legal later
 
   -- and so it is where the call left that as it was
   pub seen_alone : FindsRecord worker (seen_by worker') → IsLegal (seen_by worker')

@@ -1,4 +1,9 @@
 mod AloneLemmas
+mod CalledLemmas
+mod OwnLemmas
 mod UpkeepLemmas
-pub mod ViewNumberLemmas
-mod CallLemmas
+mod ViewNumberLemmas
+mod AcceptLemmas
+mod ViewCallLemmas
+mod OfferLemmas
+mod MergeCallLemmas

@@ -4,7 +4,6 @@ use Rattle.std.proofs.Common.{◌∷◌, ◌++◌, length, None, refl, sym, ap, 
 use Rattle.std.proofs.Common.{length-append}
 use Rattle.std.specs.Prelude.{⊤}
 use Rattle.std.specs.List.{AllByRecursion, filter_map}
-use Rattle.std.proofs.lemmas.Bool.Decides.{nat_tests}
 use Rattle.std.proofs.lemmas.List.Elements.{All-from_recursion, filter_map-append}
 use Rattle.index_core.specs.Histories.{HistoryEvent, accept, freeze, begin, built}
 use Rattle.index_core.specs.Histories.{live_docs_updated, merge_begin, merge_end, merge_drop}
@@ -19,6 +18,7 @@ use Rattle.index_core.proofs.HistoryLemmas.{skips}
 use Rattle.index_core.proofs.KnownMergeLemmas.{of_each}
 use Rattle.index_core.proofs.ListLemmas.{all_more, all_weaker, all_filter}
 use Rattle.index_core.proofs.ViewLemmas.{is_among-over, open_views-begin, open_views-after_freeze}
+use Rattle.index_shared.proofs.ListLemmas.{without_newest}
 use Rattle.index_shared.proofs.WalkLemmas.{AtEvent, along}
 
 -- ---- numbers
@@ -92,16 +92,6 @@ are_begun r legal =
     along r legal AreBegun (λ _. ⊤) one_more [] r.history refl (all_true r.history)
     (record { below = tt; ended = tt })
 
--- the newest is taken away again
-pub without_newest : (n : ℕ) (v : View) (kept : List View) → AllByRecursion (λ w. w.view ≤ n) kept
-    → n < v.view → without v.view (kept ++ v ∷ []) ≡ kept
-without_newest n v [] all h =
-    let same : nat_eq v.view v.view ≡ true = grind (arith, nat_tests) in rw same refl
-without_newest n v (w ∷ ws) all h =
-    let less : w.view ≤ n = all.0 in
-    let other : nat_eq w.view v.view ≡ false = grind (arith, nat_tests, less, h) in
-    rw other (ap (λ (vs : List View). w ∷ vs) (without_newest n v ws all.1 h))
-
 -- ---- a view begins
 
 module _ (c : ℕ) (r : Record) (legal : IsLegal r) where
@@ -134,8 +124,9 @@ module _ (c : ℕ) (r : Record) (legal : IsLegal r) where
   pub begins_others : without v.view (open_views (after_begin c r)) ≡ open_views r
   begins_others =
       ap (without v.view) begins_opened
-      ∙ without_newest n v (open_views r)
-      (subst (AllByRecursion (λ w. w.view ≤ n)) (open_views-after_freeze c r)
+      ∙ without_newest (λ (w : View). w.view) v.view (open_views r) v
+      (all_weaker (λ w. w.view ≤ n) (λ w. w.view < v.view) (λ w less. omega (arith, less))
+      (open_views r) (subst (AllByRecursion (λ w. w.view ≤ n)) (open_views-after_freeze c r)
       (all_filter (λ w. w.view ≤ n)
       (λ w. not (is_among w.view (filter_map ended_view all_frozen.history)))
-      (begun_views all_frozen.history) begun_before.below)) (omega arith)
+      (begun_views all_frozen.history) begun_before.below))) refl

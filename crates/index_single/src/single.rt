@@ -14,9 +14,9 @@ ghost use Rattle.index_core.specs.MergeCalls.{released_by_merge, after_commit, a
 ghost use Rattle.index_core.specs.MergeCalls.{without_merge, AreMergeOf};
 ghost use Rattle.index_core.specs.OpenViews.{view_of, without};
 ghost use Rattle.index_core.specs.CurrentPieces.{AreOf};
-ghost use Rattle.index_shared.specs.Offers.{after_flush, built_by_flush};
+ghost use Rattle.index_shared.specs.Offers.{AddsUpkeep, after_flush, built_by_flush};
 ghost use Rattle.index_shared.specs.OwnViews.{view_in};
-ghost use Rattle.index_single.specs.Alone.{AddsUpkeep, HasJob};
+ghost use Rattle.index_single.specs.Alone.{HasJob};
 ghost use Rattle.index_single.specs.declared.caller.TheConstants.{CALLER};
 
 use index_core::{Freed, Refused, ViewError};

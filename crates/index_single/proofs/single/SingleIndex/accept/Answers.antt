@@ -1,7 +1,8 @@
 -- The section found what was seen.
 use Rattle.sg_paths.specs.Operations.{plain_op}
 use Rattle.index_shared.specs.Sections.{seen_by}
-use Rattle.index_single.proofs.CallLemmas.{Called, Accepts, accepts_alone, stands}
+use Rattle.index_single.proofs.AcceptLemmas.{Accepts, accepts}
+use Rattle.index_single.proofs.CalledLemmas.{Called, shown, stands}
 use Rattle.index_single.proofs.single.SingleIndex.accept.Given.{Over}
 use Rattle.index_single.proofs.single.SingleIndex.accept.Goals as goal
 
@@ -22,8 +23,9 @@ all : (g : Over) (c : goal.After-meet g)
     → Accepts (plain_op c.args.op) c.accept-answer.result (λ r. r.why) c.args.self.now
     (seen_by c.meet.new.from)
 all g c =
-    accepts_alone (called g c) (plain_op c.args.op) c.accept-answer.result (λ r. r.why)
-    c.accept-answer.ensures.ok c.accept-answer.ensures.refused
+    shown (called g c) (Accepts (plain_op c.args.op) c.accept-answer.result (λ r. r.why))
+    (accepts (called g c) (plain_op c.args.op) c.accept-answer.result (λ r. r.why)
+    c.accept-answer.ensures.ok c.accept-answer.ensures.refused)
 
 pub invariant_of-self : goal.invariant_of-self
 invariant_of-self g c = stands (called g c) (all g c).later

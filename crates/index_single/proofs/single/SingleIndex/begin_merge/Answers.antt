@@ -1,7 +1,8 @@
 -- The section found what was seen.
 use Rattle.index_core.specs.MergeCalls.{merge_of}
 use Rattle.index_shared.specs.Sections.{seen_by}
-use Rattle.index_single.proofs.CallLemmas.{Called, MergeBegins, merge_begins_alone, jobs_alone, stands}
+use Rattle.index_single.proofs.CalledLemmas.{Called, shown, stands}
+use Rattle.index_single.proofs.MergeCallLemmas.{MergeBegins, merge_begins, has_jobs}
 use Rattle.index_single.proofs.single.SingleIndex.begin_merge.Given.{Over}
 use Rattle.index_single.proofs.single.SingleIndex.begin_merge.Goals as goal
 
@@ -21,8 +22,9 @@ called g c = record {
 all : (g : Over) (c : goal.After-meet g)
     → MergeBegins c.begin_merge-answer.result merge_of c.args.self.now (seen_by c.meet.new.from)
 all g c =
-    merge_begins_alone (called g c) c.begin_merge-answer.result merge_of
-    c.begin_merge-answer.ensures.ok c.begin_merge-answer.ensures.refused
+    shown (called g c) (MergeBegins c.begin_merge-answer.result merge_of)
+    (merge_begins (called g c) c.begin_merge-answer.result merge_of
+    c.begin_merge-answer.ensures.ok c.begin_merge-answer.ensures.refused)
 
 pub invariant_of-self : goal.invariant_of-self
 invariant_of-self g c = stands (called g c) (all g c).later
@@ -41,4 +43,4 @@ returns-clause-views g c = (all g c).views
 
 pub returns-clause-begun : goal.returns-clause-begun
 returns-clause-begun g c =
-    jobs_alone (called g c) c.begin_merge-answer.result c.begin_merge-answer.ensures.has
+    has_jobs (called g c) c.begin_merge-answer.result c.begin_merge-answer.ensures.has

@@ -1,7 +1,8 @@
 -- The section found what was seen.
 use Rattle.index_core.specs.OpenViews.{view_of}
 use Rattle.index_shared.specs.Sections.{seen_by}
-use Rattle.index_single.proofs.CallLemmas.{Called, Begins, begins_alone, stands}
+use Rattle.index_single.proofs.CalledLemmas.{Called, shown, stands}
+use Rattle.index_single.proofs.ViewCallLemmas.{Begins, begins}
 use Rattle.index_single.proofs.single.SingleIndex.begin_view.Given.{Over}
 use Rattle.index_single.proofs.single.SingleIndex.begin_view.Goals as goal
 
@@ -21,8 +22,9 @@ called g c = record {
 all : (g : Over) (c : goal.After-meet g)
     → Begins c.begin_view-answer.result view_of c.args.self.now (seen_by c.meet.new.from)
 all g c =
-    begins_alone (called g c) c.begin_view-answer.result view_of c.begin_view-answer.ensures.ok
-    c.begin_view-answer.ensures.refused
+    shown (called g c) (Begins c.begin_view-answer.result view_of)
+    (begins (called g c) c.begin_view-answer.result view_of c.begin_view-answer.ensures.ok
+    c.begin_view-answer.ensures.refused)
 
 pub invariant_of-self : goal.invariant_of-self
 invariant_of-self g c = stands (called g c) (all g c).later

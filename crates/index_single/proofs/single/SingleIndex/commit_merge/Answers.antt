@@ -2,7 +2,9 @@
 use Rattle.index_core.specs.MergeCalls.{merge_of}
 use Rattle.index_single.specs.declared.caller.TheConstants.{CALLER}
 use Rattle.index_shared.specs.Sections.{seen_by}
-use Rattle.index_single.proofs.CallLemmas.{Called, Commits, commits_alone, stands, job_own}
+use Rattle.index_single.proofs.CalledLemmas.{Called, shown, stands}
+use Rattle.index_single.proofs.MergeCallLemmas.{Commits, commits}
+use Rattle.index_single.proofs.OwnLemmas.{job_own}
 use Rattle.index_single.proofs.single.SingleIndex.commit_merge.Given.{Over}
 use Rattle.index_single.proofs.single.SingleIndex.commit_merge.Goals as goal
 
@@ -28,8 +30,10 @@ all : (g : Over) (c : goal.After-meet g)
     → Commits (merge_of CALLER c.args.done.parts) c.commit_merge-freed.result.gens.items
     c.args.self.now (seen_by c.meet.new.from)
 all g c =
-    commits_alone (called g c) c.args.done.parts c.commit_merge-freed.result.gens.items
-    c.commit_merge-freed.ensures.ended
+    shown (called g c)
+    (Commits (merge_of CALLER c.args.done.parts) c.commit_merge-freed.result.gens.items)
+    (commits (called g c) c.args.done.parts c.commit_merge-freed.result.gens.items
+    c.commit_merge-freed.ensures.ended)
 
 pub invariant_of-self : goal.invariant_of-self
 invariant_of-self g c = stands (called g c) (all g c).later

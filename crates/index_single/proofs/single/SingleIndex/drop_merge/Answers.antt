@@ -2,7 +2,9 @@
 use Rattle.index_core.specs.MergeCalls.{merge_of}
 use Rattle.index_single.specs.declared.caller.TheConstants.{CALLER}
 use Rattle.index_shared.specs.Sections.{seen_by}
-use Rattle.index_single.proofs.CallLemmas.{Called, Drops, drops_alone, stands, merge_own}
+use Rattle.index_single.proofs.CalledLemmas.{Called, shown, stands}
+use Rattle.index_single.proofs.MergeCallLemmas.{Drops, drops}
+use Rattle.index_single.proofs.OwnLemmas.{merge_own}
 use Rattle.index_single.proofs.single.SingleIndex.drop_merge.Given.{Over}
 use Rattle.index_single.proofs.single.SingleIndex.drop_merge.Goals as goal
 
@@ -27,7 +29,8 @@ called g c = record {
 all : (g : Over) (c : goal.After-meet g)
     → Drops (merge_of CALLER c.args.job) c.args.self.now (seen_by c.meet.new.from)
 all g c =
-    drops_alone (called g c) c.args.job c.drop_merge.ensures.dropped
+    shown (called g c) (Drops (merge_of CALLER c.args.job))
+    (drops (called g c) c.args.job c.drop_merge.ensures.dropped)
 
 pub invariant_of-self : goal.invariant_of-self
 invariant_of-self g c = stands (called g c) (all g c).later

@@ -2,14 +2,16 @@
 use Rattle.std.proofs.Common.{refl}
 use Rattle.index_shared.specs.OwnViews.{view_in}
 use Rattle.index_shared.specs.Sections.{seen_by}
-use Rattle.index_single.proofs.CallLemmas.{Called, Ends, ends_alone, stands, view_own}
+use Rattle.index_single.proofs.CalledLemmas.{Called, shown, stands}
+use Rattle.index_single.proofs.OwnLemmas.{view_own}
+use Rattle.index_single.proofs.ViewCallLemmas.{Ends, ends}
 use Rattle.index_single.proofs.single.SingleIndex.end_view.Given.{Over}
 use Rattle.index_single.proofs.single.SingleIndex.end_view.Goals as goal
 
 pub end_view-freed-requires-clause-begun : goal.end_view-freed-requires-clause-begun
 end_view-freed-requires-clause-begun g c =
-    view_own c.self.inside.worker c.args.self.now (λ n. view_in n c.args.view) c.self.invariant.number
-    c.self.view_is refl c.requires
+    view_own c.self.inside.worker c.args.self.now (λ n. view_in n c.args.view)
+    c.self.invariant.number c.self.view_is refl c.requires
 
 called : (g : Over) (c : goal.After-meet g)
     → Called c.self.inside.index c.self.inside.main c.self.inside.worker
@@ -28,8 +30,9 @@ all : (g : Over) (c : goal.After-meet g)
     → Ends c.args.view.number c.end_view-freed.result.gens.items c.args.self.now
     (seen_by c.meet.new.from)
 all g c =
-    ends_alone (called g c) c.args.view.number c.end_view-freed.result.gens.items
-    c.end_view-freed.ensures.ended
+    shown (called g c) (Ends c.args.view.number c.end_view-freed.result.gens.items)
+    (ends (called g c) c.args.view.number c.end_view-freed.result.gens.items
+    c.end_view-freed.ensures.ended)
 
 pub invariant_of-self : goal.invariant_of-self
 invariant_of-self g c = stands (called g c) (all g c).later

@@ -1,6 +1,7 @@
 -- Each section found what was seen.
 use Rattle.index_shared.specs.Sections.{seen_by}
-use Rattle.index_single.proofs.CallLemmas.{Called, Offers, offers_alone, stands}
+use Rattle.index_single.proofs.CalledLemmas.{Called, shown, stands}
+use Rattle.index_single.proofs.OfferLemmas.{Offers, offers}
 use Rattle.index_single.proofs.single.SingleIndex.offer.Given.{Over}
 use Rattle.index_single.proofs.single.SingleIndex.offer.Goals as goal
 
@@ -20,8 +21,9 @@ called g c = record {
 all : (g : Over) (c : goal.After-meet g)
     → Offers c.offer-answer.result c.args.self.now (seen_by c.meet.new.from)
 all g c =
-    offers_alone (called g c) c.offer-answer.result c.offer-answer.ensures.ok
-    c.offer-answer.ensures.stopped c.offer-answer.ensures.upkeep
+    shown (called g c) (Offers c.offer-answer.result)
+    (offers (called g c) c.offer-answer.result c.offer-answer.ensures.ok
+    c.offer-answer.ensures.stopped c.offer-answer.ensures.upkeep)
 
 pub invariant_of-self : goal.invariant_of-self
 invariant_of-self g c = stands (called g c) (all g c).later
