@@ -1,6 +1,6 @@
 -- Views that begin: what they see, and what is left where one has ended again.
-use Rattle.std.proofs.Common.{◌≡◌, ◌≤◌, ◌<◌, ◌+◌, ℕ, Bool, true, false, cond, not, List, [], ◌∷◌, ◌++◌}
-use Rattle.std.proofs.Common.{length, map, take, refl, sym, ap, ◌∙◌, subst, arith}
+use Rattle.std.proofs.Common.{◌≡◌, ◌≤◌, ◌<◌, ◌+◌, ℕ, Bool, true, false, cond, not, List, [], ◌∷◌}
+use Rattle.std.proofs.Common.{◌++◌, length, map, take, refl, sym, ap, ◌∙◌, subst, arith}
 use Rattle.std.specs.Prelude.{filter, Contains, Some}
 use Rattle.std.specs.List.{AllByRecursion, flat_map}
 use Rattle.std.proofs.lemmas.List.{take_all}
@@ -22,11 +22,13 @@ use Rattle.index_core.specs.OpenViews.{view_of}
 use Rattle.index_core.specs.Calls.{after_freeze, after_begin, after_end, begun_by}
 use Rattle.index_core.specs.CurrentPieces.{AreOf}
 use Rattle.index_core.proofs.SoundLemmas.{current_were}
+use Rattle.index_shared.specs.OwnViews.{view_in}
+use Rattle.index_shared.proofs.OwnViewLemmas.{view_in-view_of}
 use Rattle.index_single.specs.declared.caller.TheConstants.{CALLER}
 use Rattle.sg_view.specs.Viewing.{PlainView, Represents, IsViewOf}
 use Rattle.sg_shell.specs.Runs.{segment_seen, segments_seen}
 use Rattle.sg_shell.specs.Viewed.{ArePartOf, IsSegmentOf, IsViewIn}
-use Rattle.sg_shell.specs.Working.{Passes, IsShown, Begins, view_in}
+use Rattle.sg_shell.specs.Working.{Passes, IsShown, Begins}
 use Rattle.sg_shell.proofs.GainLemmas.{gains-freeze, gains-begin, gains-end, gains-then}
 use Rattle.sg_shell.proofs.HoldingLemmas.{passed_holds}
 use Rattle.sg_shell.proofs.PassLemmas.{gained_passes}
@@ -101,35 +103,12 @@ begun_in r caller parts of whole =
 
 -- ---- begun, built, ended
 
--- the view that is built of the parts
-view_is : (parts : PlainParts) (v : PlainView) → IsViewOf parts v
-    → view_in v ≡ view_of CALLER parts
-view_is parts v is =
-    ap (λ (n : ℕ). record {
-      caller = CALLER;
-      view = n;
-      upto = v.upto;
-      generations = v.generations;
-    }) is.number
-    ∙ ap (λ (n : ℕ). record {
-      caller = CALLER;
-      view = parts.number;
-      upto = n;
-      generations = v.generations;
-    }) is.upto
-    ∙ ap (λ (gs : List ℕ). record {
-      caller = CALLER;
-      view = parts.number;
-      upto = parts.upto;
-      generations = gs;
-    }) is.generations
-
 pub begun_shown : (old new : Record) (parts : PlainParts) (v : PlainView) → IsLegal new
     → new ≡ after_begin CALLER old → view_of CALLER parts ≡ begun_by CALLER old → AreOf new parts
     → IsViewOf parts v → Represents new.journal v
-    → (view_in v ≡ begun_by CALLER old) × IsShown new v
+    → (view_in CALLER v ≡ begun_by CALLER old) × IsShown new v
 begun_shown old new parts v legal is begun of view represents =
-    let same : view_in v ≡ view_of CALLER parts = view_is parts v view in
+    let same : view_in CALLER v ≡ view_of CALLER parts = view_in-view_of CALLER parts v view in
     let count : accepted (after_freeze CALLER old) ≡ accepted new =
     (let before = (gains-freeze CALLER old).counted in
     let after = (gains-begin CALLER old).counted in
@@ -168,7 +147,7 @@ pub begins_some : (old mid new : Record) (parts : PlainParts) (v : PlainView) �
 begins_some old mid new parts v legal room is same begun of there view represents =
     let shown = begun_shown old mid parts v legal is begun of view
     (represents mid.journal of.parts_of) in
-    let here : view_in v ≡ view_of CALLER parts = view_is parts v view in (
+    let here : view_in CALLER v ≡ view_of CALLER parts = view_in-view_of CALLER parts v view in (
       room,
       same ∙ is,
       shown.0,

@@ -9,8 +9,10 @@ use Rattle.std.proofs.lemmas.Bool.Decides.{nat_tests}
 use Rattle.std.proofs.lemmas.Option.{same_Some}
 use Rattle.index_core.specs.Histories.{Record, View, open_views}
 use Rattle.index_core.specs.OpenViews.{without}
+use Rattle.index_shared.specs.OwnViews.{view_in}
+use Rattle.index_single.specs.declared.caller.TheConstants.{CALLER}
 use Rattle.sg_shell.specs.Workers.{Open, named, without_name}
-use Rattle.sg_shell.specs.Working.{NamedBuilt, open_of, worker_of, view_in, views_of, IsApart}
+use Rattle.sg_shell.specs.Working.{NamedBuilt, open_of, worker_of, views_of, IsApart}
 use Rattle.sg_shell.specs.Working.{AreApart, Holds}
 
 abbrev pub has_name : List ℕ → NamedBuilt → Bool
@@ -132,7 +134,7 @@ removed name n (suc i) (o ∷ os) apart is =
 -- ---- open views
 
 contains_at : (os : List NamedBuilt) (i : ℕ) (d : NamedBuilt) (v : View) → i < length os
-    → slice_index_or (views_of (map open_of os)) i v ≡ view_in (slice_index_or os i d).view
+    → slice_index_or (views_of (map open_of os)) i v ≡ view_in CALLER (slice_index_or os i d).view
 contains_at [] i d v less = absurd (omega (arith, less))
 contains_at (o ∷ os) zero d v less = refl
 contains_at (o ∷ os) (suc i) d v less = contains_at os i d v (omega (arith, less))
@@ -144,18 +146,19 @@ length_views (o ∷ os) = ap suc (length_views os)
 -- a named view is open
 pub is_open : (r : Record) (os : List NamedBuilt) (i : ℕ) (d : NamedBuilt)
     → Holds (worker_of r os) → i < length os
-    → Contains (open_views r.history) (view_in (slice_index_or os i d).view)
+    → Contains (open_views r.history) (view_in CALLER (slice_index_or os i d).view)
 is_open r os i d holds less =
-    subst (λ (vs : List View). Contains vs (view_in (slice_index_or os i d).view))
+    subst (λ (vs : List View). Contains vs (view_in CALLER (slice_index_or os i d).view))
     (sym holds.views.are_open) (
       i,
       (let l = length_views os in omega (arith, l, less)),
-      contains_at os i d (view_in (slice_index_or os i d).view) less,
+      contains_at os i d (view_in CALLER (slice_index_or os i d).view) less,
     )
 
 -- ---- the last one
 
-pub last_at : (os : List NamedBuilt) (o d : NamedBuilt) → slice_index_or (os ++ o ∷ []) (length os) d ≡ o
+pub last_at : (os : List NamedBuilt) (o d : NamedBuilt)
+    → slice_index_or (os ++ o ∷ []) (length os) d ≡ o
 last_at [] o d = refl
 last_at (p ∷ ps) o d = last_at ps o d
 
@@ -183,4 +186,4 @@ without_last [] o apart =
 without_last (p ∷ ps) o apart =
     let far = (apart_last (IsApart (open_of p)) ps o apart.0).1 in
     let other : nat_eq p.view.number o.view.number ≡ false = grind (arith, nat_tests, far) in
-    rw other (ap (λ (vs : List View). view_in p.view ∷ vs) (without_last ps o apart.1))
+    rw other (ap (λ (vs : List View). view_in CALLER p.view ∷ vs) (without_last ps o apart.1))

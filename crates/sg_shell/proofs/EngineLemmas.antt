@@ -17,6 +17,7 @@ use Rattle.index_core.specs.Histories.{Record, View}
 use Rattle.index_core.specs.Records.{open_views}
 use Rattle.index_core.specs.LegalHistories.{IsLegal}
 use Rattle.index_core.specs.Calls.{after_begin, after_end, begun_by}
+use Rattle.index_shared.specs.OwnViews.{view_in}
 use Rattle.sg_view.specs.Viewing.{PlainView, viewed_segments, Represents}
 use Rattle.sg_view.specs.Rows.{HasHit, IsNumbered, hit_key}
 use Rattle.index_shared.specs.Offers.{after_flush, built_by_flush}
@@ -28,15 +29,14 @@ use Rattle.sg_shell.specs.Workers.{named, begin_step, query_step, open_step, flu
 use Rattle.sg_shell.specs.Rows.{printed_rows}
 use Rattle.sg_shell.specs.Runs.{segment_seen, IsReportReply}
 use Rattle.sg_shell.specs.Viewed.{IsViewIn}
-use Rattle.sg_shell.specs.Working.{Passes, IsShown, IsWorking, view_in, hit_row}
+use Rattle.sg_shell.specs.Working.{Passes, IsShown, IsWorking, hit_row}
 use Rattle.std.proofs.Common.{IfSome}
 use Rattle.wire_json.specs.Commands.{Command, refused}
 use Rattle.wire_json.specs.CommandForms.{kind_of, Refuses}
 use Rattle.wire_json.specs.declared.errors.LineError.{LineError}
 use Rattle.wire_replies.specs.declared.error_kind.ErrorKind.{ErrorKind}
 use Rattle.sg_shell.specs.Workers.{step}
-use Rattle.sg_shell.specs.Working.{Begins}
-use Rattle.sg_shell.specs.Working.{Answers, NamedBuilt}
+use Rattle.sg_shell.specs.Working.{Begins, Answers, NamedBuilt}
 use Rattle.index_single.specs.declared.caller.TheConstants.{CALLER}
 use Rattle.sg_shell.proofs.BeginLemmas.{passed}
 use Rattle.sg_shell.proofs.PassLemmas.{passes_both}
@@ -72,15 +72,15 @@ pub reply_is : (line upto : ℕ) (query : PlainQuery) (v : PlainView) (hits : Li
     → ((journal : List PlainOp) → Represents journal v
     → IsReport query (viewed_segments v) (rows_of (hit_key v.segments) hits) cut)
     → (r : Record) → IsShown r v
-    → IsReportReply line (rows line upto items cut) r (view_in v) query
+    → IsReportReply line (rows line upto items cut) r (view_in CALLER v) query
 reply_is line upto query v hits items cut same printed has numbers report r shown =
     let ranks = rows_of (hit_key v.segments) hits in
     let texts : items ≡ printed_rows r.journal v.upto ranks =
     printed ∙ rows_are r v shown hits has numbers in
-    subst (λ (x : Reply). IsReportReply line x r (view_in v) query)
+    subst (λ (x : Reply). IsReportReply line x r (view_in CALLER v) query)
     (ap (λ (n : ℕ). rows line n (printed_rows r.journal v.upto ranks) cut) (sym same)
     ∙ ap (λ (xs : List Row). rows line upto xs cut) (sym texts))
-    (meets_seen r (view_in v) v line v.upto query ranks cut refl shown.sees
+    (meets_seen r (view_in CALLER v) v line v.upto query ranks cut refl shown.sees
     (report r.journal (represents_shown r v shown)))
 
 -- ---- steps
@@ -132,12 +132,13 @@ query_full line q w mid new flushed full same =
 pub query_rows : (line : ℕ) (q : PlainQuery) (w : Worker) (mid new final : Record) (v : PlainView)
     (reply : Reply) → mid ≡ after_flush CALLER w.seen
     → length (open_views mid) < MOST_OPEN_VIEWS → new ≡ after_begin CALLER mid
-    → view_in v ≡ begun_by CALLER mid → IsShown new v → final ≡ after_end CALLER v.number new
-    → IsReportReply line reply new (view_in v) q → q.k ≤ MOST_QUEUED
+    → view_in CALLER v ≡ begun_by CALLER mid → IsShown new v → final ≡ after_end CALLER v.number new
+    → IsReportReply line reply new (view_in CALLER v) q → q.k ≤ MOST_QUEUED
     → Answers line (query_step CALLER line q w) reply (with_seen final w)
 query_rows line q w mid new final v reply flushed room begins view shown ends report few =
     let ended : after_end CALLER (begun_by CALLER mid).view (after_begin CALLER mid) ≡ final =
-    ap (λ (n : ℕ). after_end CALLER n (after_begin CALLER mid)) (ap (λ (x : View). x.view) (sym view))
+    ap (λ (n : ℕ). after_end CALLER n (after_begin CALLER mid))
+    (ap (λ (x : View). x.view) (sym view))
     ∙ ap (after_end CALLER v.number) (sym begins) ∙ sym ends in
     subst (λ (r : Record). Answers line (begin_step line w r (asks q w r)) reply
     (with_seen final w)) flushed
@@ -147,17 +148,17 @@ query_rows line q w mid new final v reply flushed room begins view shown ends re
       expected = reports (after_begin CALLER mid) (begun_by CALLER mid) q;
       expects = refl;
       meets = subst (λ (x : View). IsReportReply line reply (after_begin CALLER mid) x q) view
-          (subst (λ (r : Record). IsReportReply line reply r (view_in v) q) begins report);
+          (subst (λ (r : Record). IsReportReply line reply r (view_in CALLER v) q) begins report);
       viewed = (
         subst (λ (x : View). IsViewIn (after_begin CALLER mid) x) view
-            (subst (λ (r : Record). IsViewIn r (view_in v)) begins shown.is_in),
+            (subst (λ (r : Record). IsViewIn r (view_in CALLER v)) begins shown.is_in),
         few,
       );
       after_is = ap (λ (r : Record). with_seen r w) ended;
     }))
 
 pub query_passes : (old mid new final : Record) (v : PlainView) → IsLegal final
-    → Passes old mid → new ≡ after_begin CALLER mid → view_in v ≡ begun_by CALLER mid
+    → Passes old mid → new ≡ after_begin CALLER mid → view_in CALLER v ≡ begun_by CALLER mid
     → final ≡ after_end CALLER v.number new → Passes old final
 query_passes old mid new final v legal before begins view ends =
     passes_both old mid final before
@@ -239,7 +240,8 @@ working_new r os is none =
 pub query_begins : (line : ℕ) (q : PlainQuery) (w : Worker) (old mid new final : Record)
     (v : PlainView) (reply : Reply) → w.seen ≡ old → mid ≡ after_flush CALLER old
     → Begins mid new (Some v) → final ≡ after_end CALLER v.number new
-    → ((r : Record) → IsShown r v → IsReportReply line reply r (view_in v) q) → q.k ≤ MOST_QUEUED
+    → ((r : Record) → IsShown r v → IsReportReply line reply r (view_in CALLER v) q)
+    → q.k ≤ MOST_QUEUED
     → Answers line (query_step CALLER line q w) reply (with_seen final w)
 query_begins line q w old mid new final v reply seen flushed begins ends report few =
     query_rows line q w mid new final v reply (flushed ∙ ap (after_flush CALLER) (sym seen))

@@ -1,5 +1,5 @@
--- What one line adds to a transcript fits: a reply that it may have, the named views afterwards, the
--- next number.
+-- What one line adds to a transcript fits: a reply that it may have, the named views afterwards,
+-- the next number.
 use Rattle.std.proofs.Common.{◌≡◌, ◌≤◌, ◌<◌, ◌+◌, ℕ, Bool, true, false, cond, List, [], ◌∷◌, ◌++◌}
 use Rattle.std.proofs.Common.{length, map, suc, inl, inr, Option, Some, None, refl, sym, ap, ◌∙◌}
 use Rattle.std.proofs.Common.{subst, arith, append-nil, add-zero, length-append}
@@ -18,17 +18,15 @@ use Rattle.index_shared.specs.Offers.{after_flush, built_by_flush}
 use Rattle.wire_json.specs.Commands.{Command, blank, accepts, suggests, opens, closes, flushes}
 use Rattle.wire_json.specs.Commands.{merges, barrier, refused}
 use Rattle.wire_json.specs.CommandForms.{IsRead}
-use Rattle.wire_replies.specs.Replies.{Reply, numbered, rows, opened, closed, built, merged}
-use Rattle.wire_replies.specs.Replies.{failed}
+use Rattle.wire_replies.specs.Replies.{Reply, numbered, rows, opened, closed, built, merged, failed}
 use Rattle.wire_replies.specs.Rows.{Row}
 use Rattle.wire_replies.specs.declared.error_kind.ErrorKind.TheVariants.{Full, View as NoView}
 use Rattle.wire_replies.specs.declared.error_kind.ErrorKind.TheVariants.{Views as NoRoom}
 use Rattle.sg_shell.specs.Rows.{printed_rows}
 use Rattle.sg_shell.specs.Transcripts.{Line, Said}
 use Rattle.sg_shell.specs.Workers.{Open, Worker, with_seen, Step, says, reports, merged_count}
-use Rattle.sg_shell.specs.Workers.{after_merge}
-use Rattle.sg_shell.specs.Workers.{named, without_name, accept_step, query_step, named_step}
-use Rattle.sg_shell.specs.Workers.{open_step, close_step, step}
+use Rattle.sg_shell.specs.Workers.{after_merge, named, without_name, accept_step, query_step}
+use Rattle.sg_shell.specs.Workers.{named_step, open_step, close_step, step}
 use Rattle.sg_shell.specs.Runs.{IsReportReply, Adds}
 use Rattle.sg_shell.specs.Sessions.{wants_reply, NamedView, views_after, view_named, MayReply}
 use Rattle.sg_shell.specs.Sessions.{MayAsk, MayOpen, MayClose, AllMayReply}
@@ -124,7 +122,8 @@ fits_report w line r v query after kept may gains next wants said adds =
     let is : said ≡ record { line = line; reply = p } ∷ [] =
     adds.1 ∙ ap (λ (q : Reply). record { line = line; reply = q } ∷ []) report.is in
     subst (Fits w line s) (sym is)
-    (fits_one w line s p [] kept (may rs report.cut) gains (none_more w.seen.journal) (next rs report.cut) wants)
+    (fits_one w line s p [] kept (may rs report.cut) gains (none_more w.seen.journal)
+    (next rs report.cut) wants)
 
 -- a line that prints nothing
 fits_nothing : (w : Worker) (line : Line) → wants_reply line.command ≡ false

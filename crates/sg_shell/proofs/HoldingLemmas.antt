@@ -12,8 +12,9 @@ use Rattle.index_core.specs.Histories.{Record, View, begun_views}
 use Rattle.index_core.specs.Records.{accepted, open_views}
 use Rattle.index_core.specs.Calls.{after_accept, after_freeze, after_begin, after_end, begun_by}
 use Rattle.index_core.specs.Calls.{released_by_end}
+use Rattle.index_core.proofs.ListLemmas.{all_weaker}
 use Rattle.index_shared.specs.Offers.{after_flush}
-use Rattle.index_single.proofs.ViewNumberLemmas.{without_newest}
+use Rattle.index_shared.proofs.ListLemmas.{without_newest}
 use Rattle.wire_json.specs.Commands.{Command, accepts, suggests, opens, closes, flushes}
 use Rattle.wire_json.specs.Commands.{merges, refused}
 use Rattle.wire_replies.specs.Replies.{numbered, failed}
@@ -27,9 +28,8 @@ use Rattle.sg_shell.specs.RunLaws.{NamedViewsAreOpen}
 use Rattle.sg_shell.specs.Working.{Quiet, Views, views_of, Holds}
 use Rattle.sg_shell.proofs.PlanLemmas.{quiet_merge}
 use Rattle.sg_shell.proofs.QuietLemmas.{quiet_freeze, quiet_accept, quiet_flush}
-use Rattle.sg_shell.proofs.OpenLemmas.{quiet_views, begin_views, end_views}
-use Rattle.sg_shell.proofs.OpenLemmas.{found_view, close_one, apart_without}
-use Rattle.sg_shell.proofs.OpenLemmas.{apart_more, newest}
+use Rattle.sg_shell.proofs.OpenLemmas.{quiet_views, begin_views, end_views, found_view, close_one}
+use Rattle.sg_shell.proofs.OpenLemmas.{apart_without, apart_more, newest}
 
 -- a line that begins a view, by whether there is room for one
 pub begin_cases : (P : Step → Type 0) (n : ℕ) (w : Worker) (r : Record) (begins : Step)
@@ -84,9 +84,11 @@ passed_holds caller r kept views =
     let all_frozen = after_freeze caller r in
     let before = quiet_views r all_frozen kept (quiet_freeze caller r) views in
     let begun = begun_holds caller r kept views in
-    let more : length (begun_views all_frozen.history) < v.view = omega arith in
+    let n = length (begun_views all_frozen.history) in
+    let below = all_weaker (λ (w : View). w.view ≤ n) (λ w. w.view < v.view)
+    (λ w less. omega (arith, less)) kept before.below in
     subst (Views (after_end caller v.view later).history)
-    (without_newest (length (begun_views all_frozen.history)) v kept before.below more)
+    (without_newest (λ (w : View). w.view) v.view kept v below refl)
     (end_views later (kept ++ v ∷ []) caller v.view (released_by_end caller v.view later)
     (newest kept v (length (begun_views later.history)) begun.below) begun)
 

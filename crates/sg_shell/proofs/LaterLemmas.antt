@@ -1,6 +1,6 @@
 -- Views stay what they are in a legal record that continues another.
-use Rattle.std.proofs.Common.{◌≡◌, ◌≤◌, ℕ, true, not, nat_eq, ◌||◌, List, [], ◌∷◌, ◌++◌, length}
-use Rattle.std.proofs.Common.{map, take, refl, sym, ap, ◌∙◌, subst, arith, append_assoc, length-append}
+use Rattle.std.proofs.Common.{◌≡◌, ◌≤◌, ℕ, true, not, nat_eq, ◌||◌, List, [], ◌∷◌, length, map}
+use Rattle.std.proofs.Common.{take, refl, sym, ap, ◌∙◌, subst, arith, length-append}
 use Rattle.std.specs.Prelude.{filter}
 use Rattle.std.specs.List.{AllByRecursion, filter_map}
 use Rattle.std.proofs.lemmas.List.Elements.{filter_map-append, filter_agree}
@@ -10,65 +10,23 @@ use Rattle.sg_paths.specs.LiveDocuments.{is_deleted, live_documents}
 use Rattle.sg_answers.specs.Reports.{ViewedSegment, live_in}
 use Rattle.segment.specs.Items.{total_of}
 use Rattle.index_core.specs.Histories.{HistoryEvent, Record, View, drawn_generation, is_among}
-use Rattle.index_core.specs.Histories as events
 use Rattle.index_core.specs.Records.{drawn}
 use Rattle.index_core.specs.Generations.{documents_of}
 use Rattle.index_core.specs.HeldGenerations.{WereDrawn}
-use Rattle.index_core.specs.LegalHistories.{IsLegal, first_events}
-use Rattle.index_core.proofs.SoundRecordLemmas.{generations_keep}
+use Rattle.index_core.specs.LegalHistories.{IsLegal}
+use Rattle.index_shared.specs.OwnViews.{view_in}
+use Rattle.index_shared.proofs.ExtendsLemmas.{still_holds}
+use Rattle.index_single.specs.declared.caller.TheConstants.{CALLER}
 use Rattle.index_shared.specs.Sections.{Extends}
 use Rattle.sg_view.specs.Viewing.{PlainView}
 use Rattle.sg_shell.specs.Runs.{segment_seen, segments_seen}
 use Rattle.sg_shell.specs.Viewed.{IsSegmentOf, IsViewIn}
-use Rattle.sg_shell.specs.Working.{NamedBuilt, IsShown, view_in}
+use Rattle.sg_shell.specs.Working.{NamedBuilt, IsShown}
 use Rattle.sg_shell.proofs.ReportLemmas.{first_stays, deleted_stays, live_stays}
-
--- ---- records
-
-pub later_both : (r s u : Record) → Extends r s → Extends s u → Extends r u
-later_both r s u p q = record {
-  events = p.events ++ q.events;
-  operations = p.operations ++ q.operations;
-  history_is = q.history_is ∙ ap (λ (h : List HistoryEvent). h ++ q.events) p.history_is
-      ∙ append_assoc r.history p.events q.events;
-  journal_is = q.journal_is ∙ ap (λ (j : List PlainOp). j ++ q.operations) p.journal_is
-      ∙ append_assoc r.journal p.operations q.operations;
-}
-
-front_is : {X : Type 0} (xs ys : List X) → take (length xs) (xs ++ ys) ≡ xs
-front_is [] ys = refl
-front_is {X} (x ∷ xs) ys = ap (λ (zs : List X). x ∷ zs) (front_is xs ys)
-
--- the record before is that of the first events
-first_is : (r s : Record) → IsLegal r → Extends r s → first_events (length r.history) s ≡ r
-first_is r s legal later =
-    let k = length r.history in
-    let history : take k s.history ≡ r.history =
-    ap (take k) later.history_is ∙ front_is r.history later.events in
-    let count : events.accepted (take k s.history) ≡ length r.journal =
-    ap events.accepted history ∙ sym legal.numbered in
-    let journal : take (events.accepted (take k s.history)) s.journal ≡ r.journal =
-    ap (λ (n : ℕ). take n s.journal) count ∙ ap (take (length r.journal)) later.journal_is
-    ∙ front_is r.journal later.operations in
-    ap (λ (h : List HistoryEvent). record {
-      history = h;
-      journal = take (events.accepted (take k s.history)) s.journal;
-    }) history
-    ∙ ap (λ (j : List PlainOp). record { history = r.history; journal = j }) journal
 
 -- ---- generations
 
 module _ (r s : Record) (legal : IsLegal r) (still : IsLegal s) (later : Extends r s) where
-  -- a generation that was drawn holds what it held
-  documents_stay : (g : ℕ) → is_among g (drawn r) ≡ true → documents_of s g ≡ documents_of r g
-  documents_stay g there =
-      let first = first_is r s legal later in
-      let long = ap (λ (h : List HistoryEvent). length h) later.history_is in
-      let both = length-append r.history later.events in
-      generations_keep s (length r.history) g still (omega (arith, long, both))
-      (subst (λ (x : Record). is_among g (drawn x) ≡ true) (sym first) there)
-      ∙ ap (λ (x : Record). documents_of x g) first
-
   drawn_still : (g : ℕ) → is_among g (drawn r) ≡ true → is_among g (drawn s) ≡ true
   drawn_still g there =
       ap (λ (h : List HistoryEvent). is_among g (filter_map drawn_generation h)) later.history_is
@@ -85,7 +43,7 @@ module _ (r s : Record) (legal : IsLegal r) (still : IsLegal s) (later : Extends
       → map (segment_seen s n) gs ≡ map (segment_seen r n) gs
   seen_stay n [] within were = refl
   seen_stay n (g ∷ gs) within were =
-      let same = documents_stay g were.0 in
+      let same = still_holds r s legal still later g were.0 in
       let seen : List PlainNumbered → List PlainNumbered → ViewedSegment = λ ds live. record {
         generation = g;
         documents = ds;
@@ -130,10 +88,10 @@ module _ (r s : Record) (legal : IsLegal r) (still : IsLegal s) (later : Extends
 
   shown_stays : (v : PlainView) → IsShown r v → IsShown s v
   shown_stays v shown =
-      let sees : segments_seen s (view_in v) ≡ segments_seen r (view_in v) =
+      let sees : segments_seen s (view_in CALLER v) ≡ segments_seen r (view_in CALLER v) =
       seen_stay v.upto v.generations shown.is_in.within shown.drawn in
       record {
-        is_in = view_stays (view_in v) shown.drawn shown.is_in sees;
+        is_in = view_stays (view_in CALLER v) shown.drawn shown.is_in sees;
         sees = shown.sees ∙ sym sees;
         drawn = were_drawn_still v.generations shown.drawn;
       }

@@ -1,6 +1,6 @@
 -- What lines with the name of a view answer, and the worker afterwards.
-use Rattle.std.proofs.Common.{◌≡◌, ◌≤◌, ◌<◌, ℕ, List, [], ◌∷◌, ◌++◌, length, map, Option, Some, None}
-use Rattle.std.proofs.Common.{refl, sym, ap, ◌∙◌, subst, arith, slice_index_or, zero-add}
+use Rattle.std.proofs.Common.{◌≡◌, ◌≤◌, ◌<◌, ℕ, List, [], ◌∷◌, ◌++◌, length, map, Option, Some}
+use Rattle.std.proofs.Common.{None, refl, sym, ap, ◌∙◌, subst, arith, slice_index_or, zero-add}
 use Rattle.std.specs.Prelude.{Contains, remove}
 use Rattle.std.specs.List.{AllByRecursion, position_from}
 use Rattle.std.proofs.lemmas.List.{map-append}
@@ -11,6 +11,8 @@ use Rattle.index_core.specs.Histories.{Record, View}
 use Rattle.index_core.specs.Records.{open_views}
 use Rattle.index_core.specs.LegalHistories.{IsLegal}
 use Rattle.index_core.specs.Calls.{after_begin, after_end, begun_by, released_by_end}
+use Rattle.index_shared.specs.OwnViews.{view_in}
+use Rattle.index_shared.proofs.ExtendsLemmas.{extends_on}
 use Rattle.sg_view.specs.Viewing.{PlainView}
 use Rattle.index_shared.specs.Offers.{after_flush}
 use Rattle.wire_json.specs.Commands.{opens, closes}
@@ -20,17 +22,16 @@ use Rattle.wire_replies.specs.declared.error_kind.ErrorKind.TheVariants.{Views a
 use Rattle.sg_shell.specs.Workers.{Open, Worker, with_seen, Step, says, reports, named}
 use Rattle.sg_shell.specs.Workers.{without_name, named_step, open_step, close_step}
 use Rattle.sg_shell.specs.Runs.{IsReportReply}
-use Rattle.sg_shell.specs.Working.{NamedBuilt, open_of, worker_of, view_in, views_of, Answers, Views}
+use Rattle.sg_shell.specs.Working.{NamedBuilt, open_of, worker_of, views_of, Answers, Views}
 use Rattle.sg_shell.specs.Working.{Holds, IsShown, IsWorking, Passes, Begins}
 use Rattle.index_single.specs.declared.caller.TheConstants.{CALLER}
-use Rattle.sg_shell.proofs.CloseLemmas.{has_name, IsFoundAt, named_none, named_some, all_at, all_more}
-use Rattle.sg_shell.proofs.CloseLemmas.{all_removed, removed, is_open, without_last}
+use Rattle.sg_shell.proofs.CloseLemmas.{has_name, IsFoundAt, named_none, named_some, all_at}
+use Rattle.sg_shell.proofs.CloseLemmas.{all_more, all_removed, removed, is_open, without_last}
 use Rattle.sg_shell.proofs.CloseLemmas.{apart_without_last, last_at}
-use Rattle.sg_shell.proofs.EngineLemmas.{answers_says, open_begun, open_full}
-use Rattle.sg_shell.proofs.EngineLemmas.{passes_working}
+use Rattle.sg_shell.proofs.EngineLemmas.{answers_says, open_begun, open_full, passes_working}
 use Rattle.sg_shell.proofs.GainLemmas.{gains-begin, gains-end}
 use Rattle.sg_shell.proofs.HoldingLemmas.{holds_step}
-use Rattle.sg_shell.proofs.LaterLemmas.{later_both, all_shown}
+use Rattle.sg_shell.proofs.LaterLemmas.{all_shown}
 use Rattle.sg_shell.proofs.OpenLemmas.{end_views}
 use Rattle.sg_shell.proofs.PassLemmas.{extends_gained}
 
@@ -51,7 +52,7 @@ answer_unknown line name q r os is =
 pub answer_named : (line : ℕ) (name : List ℕ) (q : PlainQuery) (r : Record)
     (os : List NamedBuilt) (i : ℕ) (x : NamedBuilt) (reply : Reply) → IsWorking r os
     → position_from (has_name name) 0 os ≡ Some i → x ≡ slice_index_or os i x
-    → ((s : Record) → IsShown s x.view → IsReportReply line reply s (view_in x.view) q)
+    → ((s : Record) → IsShown s x.view → IsReportReply line reply s (view_in CALLER x.view) q)
     → q.k ≤ MOST_QUEUED
     → Answers line (named_step line q (named name (map open_of os)) (worker_of r os)) reply
     (worker_of r os)
@@ -64,7 +65,7 @@ answer_named line name q r os i x reply working is here report few =
     f.is x ∙ ap (λ (o : NamedBuilt). Some (open_of o)) (sym here) in
     subst (λ (o : Option Open). Answers line (named_step line q o (worker_of r os)) reply
     (worker_of r os)) (sym found) (record {
-      expected = reports r (view_in x.view) q;
+      expected = reports r (view_in CALLER x.view) q;
       expects = refl;
       meets = report r shown;
       viewed = (shown.is_in, few);
@@ -161,7 +162,7 @@ pub open_more : (line upto : ℕ) (name : List ℕ) (old mid new : Record) (os o
     (v : PlainView) → IsLegal new → IsWorking old os → position_from (has_name name) 0 os ≡ None
     → mid ≡ after_flush CALLER old → Passes old mid
     → length (open_views mid) < MOST_OPEN_VIEWS → new ≡ after_begin CALLER mid
-    → view_in v ≡ begun_by CALLER mid → IsShown new v → upto ≡ v.upto
+    → view_in CALLER v ≡ begun_by CALLER mid → IsShown new v → upto ≡ v.upto
     → os' ≡ os ++ record { name = name; view = v } ∷ [] → Opens line upto name old new os os'
 open_more line upto name old mid new os os' v legal working is flushed passes room begins view
     shown same more =
@@ -171,9 +172,9 @@ open_more line upto name old mid new os os' v legal working is flushed passes ro
     sym (map-append open_of os (one ∷ [])) ∙ ap (map open_of) (sym more) in
     let a = subst (λ (ks : List Open). Answers line (open_step CALLER line name None w)
     (opened line name upto) (record { seen = new; kept = ks })) kept
-    (open_begun line upto name w mid new (view_in v) flushed room begins view same) in
+    (open_begun line upto name w mid new (view_in CALLER v) flushed room begins view same) in
     let all = open_new line name old os (opened line name upto) (worker_of new os') is a in
-    let later = later_both old mid new passes.later
+    let later = extends_on old mid new passes.later
     (extends_gained [] mid new (after_begin CALLER mid) begins (gains-begin CALLER mid)) in
     record {
       answers = all;
@@ -233,10 +234,10 @@ open_is_full line name old mid new os rs working is flushed passes begins kept =
 -- ---- given back
 
 pub last_open : (r : Record) (os all : List NamedBuilt) (x : NamedBuilt) → all ≡ os ++ x ∷ []
-    → Holds (worker_of r all) → Contains (open_views r) (view_in x.view)
+    → Holds (worker_of r all) → Contains (open_views r) (view_in CALLER x.view)
 last_open r os all x is holds =
     let whole = subst (λ (zs : List NamedBuilt). Holds (worker_of r zs)) is holds in
-    subst (λ (o : NamedBuilt). Contains (open_views r) (view_in o.view)) (last_at os x x)
+    subst (λ (o : NamedBuilt). Contains (open_views r) (view_in CALLER o.view)) (last_at os x x)
     (is_open r (os ++ x ∷ []) (length os) x whole (within os))
   where
     within : (zs : List NamedBuilt) → length zs < length (zs ++ x ∷ [])
@@ -249,7 +250,7 @@ fewer [] x = omega arith
 fewer (o ∷ os) x = (let h = fewer os x in omega (arith, h))
 
 last_below : (P : View → Type 0) (os : List NamedBuilt) (x : NamedBuilt)
-    → AllByRecursion P (views_of (map open_of (os ++ x ∷ []))) → P (view_in x.view)
+    → AllByRecursion P (views_of (map open_of (os ++ x ∷ []))) → P (view_in CALLER x.view)
 last_below P [] x all = all.0
 last_below P (o ∷ os) x all = last_below P os x all.1
 

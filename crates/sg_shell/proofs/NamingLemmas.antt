@@ -1,6 +1,6 @@
 -- Named views, by the worker and by the lines.
-use Rattle.std.proofs.Common.{◌≡◌, ℕ, Bool, true, false, cond, not, List, [], ◌∷◌, map, Option, Some}
-use Rattle.std.proofs.Common.{refl, sym, ap, ◌∙◌}
+use Rattle.std.proofs.Common.{◌≡◌, ℕ, Bool, true, false, cond, not, List, [], ◌∷◌, map, Option}
+use Rattle.std.proofs.Common.{Some, refl, sym, ap, ◌∙◌}
 use Rattle.std.specs.Prelude.{filter, option_map, bytes_eq}
 use Rattle.sg_shell.specs.Workers.{Open, named, without_name}
 use Rattle.sg_shell.specs.Sessions.{NamedView, view_named}

@@ -1,7 +1,6 @@
 -- The named views of a worker are the open ones: numbers, names, and what a begin and an end do.
-use Rattle.std.proofs.Common.{◌≡◌, ◌≤◌, ◌<◌, ◌+◌, ℕ, Bool, true, false, cond, not, nat_eq}
-use Rattle.std.proofs.Common.{List, [], ◌∷◌, ◌++◌, length, Some, None, refl}
-use Rattle.std.proofs.Common.{sym, ap, ◌∙◌, subst, arith}
+use Rattle.std.proofs.Common.{◌≡◌, ◌≤◌, ◌<◌, ◌+◌, ℕ, Bool, true, false, cond, not, nat_eq, List, []}
+use Rattle.std.proofs.Common.{◌∷◌, ◌++◌, length, Some, None, refl, sym, ap, ◌∙◌, subst, arith}
 use Rattle.std.specs.Prelude.{filter, bytes_eq}
 use Rattle.std.specs.List.{AllByRecursion, filter_map}
 use Rattle.std.specs.Cmp.Lexicographic.{nat_list_eq_equiv, bytes_decides}
@@ -223,8 +222,10 @@ apart_more n o (p ∷ ps) new below more apart =
     by_test false here e again =
         let less : p.view.view ≤ n = below.0 in
         let number : nat_eq o.view.view p.view.view ≡ false =
-        grind (arith, nat_tests, less, more) in
-        (last_too (IsApart p) ps o apart.0 (nat_list_eq_equiv.symm o.name p.name ∙ here, number), again e)
+        grind (arith, nat_tests, less, more) in (
+          last_too (IsApart p) ps o apart.0 (nat_list_eq_equiv.symm o.name p.name ∙ here, number),
+          again e,
+        )
 
 pub newest : (vs : List View) (v : View) (n : ℕ) → AllByRecursion (λ w. w.view ≤ n) (vs ++ v ∷ [])
     → v.view ≤ n

@@ -12,8 +12,8 @@ use Rattle.index_core.specs.Histories.{accept, built, live_docs_updated, merge_b
 use Rattle.index_core.specs.Histories.{Record, Merge, is_among, closed_merge}
 use Rattle.index_core.specs.Records.{with_event, accepted, frozen, buffered, current, begun_merges}
 use Rattle.index_core.specs.Records.{open_merges, next_merge}
-use Rattle.index_core.specs.Calls.{with_operation, after_accept, after_freeze, after_begin, after_end}
-use Rattle.index_core.specs.Calls.{begun_by}
+use Rattle.index_core.specs.Calls.{with_operation, after_accept, after_freeze, after_begin}
+use Rattle.index_core.specs.Calls.{after_end, begun_by}
 use Rattle.index_core.specs.CurrentPieces.{is_unbuilt, after_built, is_behind}
 use Rattle.index_core.specs.Merges.{merge_plan}
 use Rattle.index_core.specs.MergeCalls.{next_merge_by, after_begin_of}

@@ -1,8 +1,9 @@
 -- What a report says of its segments, over all documents.
-use Rattle.std.proofs.Common.{◌≡◌, ◌≤◌, ◌<◌, ◌+◌, ◌-◌, ◌*◌, ℕ, zero, suc, Bool, true, false, cond, not}
-use Rattle.std.proofs.Common.{◌&&◌, ◌||◌, List, [], ◌∷◌, ◌++◌, length, map, Option, Some, None, refl}
-use Rattle.std.proofs.Common.{sym, ap, ◌∙◌, subst, arith, max, take}
-use Rattle.std.specs.Prelude.{filter, nat_lt, nat_le, nat_eq, fold, Contains, is_some, bytes_eq, ◌/◌}
+use Rattle.std.proofs.Common.{◌≡◌, ◌≤◌, ◌<◌, ◌+◌, ◌-◌, ◌*◌, ℕ, zero, suc, Bool, true, false, cond}
+use Rattle.std.proofs.Common.{not, ◌&&◌, ◌||◌, List, [], ◌∷◌, ◌++◌, length, map, Option, Some, None}
+use Rattle.std.proofs.Common.{refl, sym, ap, ◌∙◌, subst, arith, max, take}
+use Rattle.std.specs.Prelude.{filter, nat_lt, nat_le, nat_eq, fold, Contains, is_some, bytes_eq}
+use Rattle.std.specs.Prelude.{◌/◌}
 use Rattle.std.specs.List.{AllByRecursion, flat_map, list_any, starts_with}
 use Rattle.std.specs.Cmp.Lexicographic.{nat_list_eq_equiv, bytes_decides}
 use Rattle.std.proofs.Math.Nat.{le-div_iff_mul-le, mul-le-mul_left, mul-le-mul_right}
@@ -322,8 +323,10 @@ sound_over_all query segments added live ranks (Some c) few same are sound =
       truncates_most query s.documents added c of.part is.point,
     )
   where
-    contained : (xs : List ViewedSegment) (t : ViewedSegment) → AllByRecursion (IsSegmentOf added) xs
+    contained : (xs : List ViewedSegment) (t : ViewedSegment)
+        → AllByRecursion (IsSegmentOf added) xs
         → Contains xs t → IsSegmentOf added t
     contained [] t all (k, within, at) = absurd (omega (arith, within))
     contained (x ∷ xs) t all (zero, within, at) = subst (IsSegmentOf added) at all.0
-    contained (x ∷ xs) t all (suc k, within, at) = contained xs t all.1 (k, omega (arith, within), at)
+    contained (x ∷ xs) t all (suc k, within, at) =
+        contained xs t all.1 (k, omega (arith, within), at)

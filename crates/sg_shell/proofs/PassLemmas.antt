@@ -1,7 +1,6 @@
 -- What calls of the index leave: a legal record that continues the one before, with the same views
 -- open.
-use Rattle.std.proofs.Common.{◌≡◌, List, [], ◌∷◌, ◌++◌, None, refl, sym, ap, ◌∙◌, subst}
-use Rattle.std.proofs.Common.{append-nil}
+use Rattle.std.proofs.Common.{◌≡◌, List, [], ◌∷◌, ◌++◌, None, refl, sym, ap, ◌∙◌, subst, append-nil}
 use Rattle.std.specs.Prelude.{Result, Ok, Err, Option, OnOk, OnErr}
 use Rattle.std.specs.List.{AllByRecursion, filter_map}
 use Rattle.std.proofs.lemmas.List.Elements.{filter_map-append}
@@ -11,13 +10,12 @@ use Rattle.index_core.specs.Histories.{live_docs_updated, merge_begin, merge_end
 use Rattle.index_core.specs.Histories.{view_end, Record, begun_view, ended_view}
 use Rattle.index_core.specs.LegalHistories.{IsLegal}
 use Rattle.index_core.specs.Calls.{after_accept}
-use Rattle.index_shared.specs.Offers.{IsUpkeep, after_flush}
+use Rattle.index_shared.specs.Offers.{IsUpkeep, AddsUpkeep, after_flush}
 use Rattle.index_shared.specs.Sections.{Extends}
-use Rattle.index_single.specs.Alone.{AddsUpkeep}
+use Rattle.index_shared.proofs.ExtendsLemmas.{extends_on}
 use Rattle.index_single.specs.declared.caller.TheConstants.{CALLER}
 use Rattle.sg_shell.specs.Working.{Quiet, KeepsOpen, Passes}
 use Rattle.sg_shell.proofs.GainLemmas.{Gains, gains-none, gains-accept, gains-flush}
-use Rattle.sg_shell.proofs.LaterLemmas.{later_both}
 use Rattle.sg_shell.proofs.OpenLemmas.{quiet_views}
 use Rattle.sg_shell.proofs.QuietLemmas.{quiet_same, quiet_accept, quiet_flush}
 
@@ -49,7 +47,7 @@ same_passes r s legal is =
 pub passes_both : (r s u : Record) → Passes r s → Passes s u → Passes r u
 passes_both r s u p q = record {
   legal = q.legal;
-  later = later_both r s u p.later q.later;
+  later = extends_on r s u p.later q.later;
   open_stay = λ kept views. q.open_stay kept (p.open_stay kept views);
 }
 

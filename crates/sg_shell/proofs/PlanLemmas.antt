@@ -36,8 +36,8 @@ few_merged caller r =
 
     by_planned : (o : Option (List Size))
         → IfSome o (λ chosen. AreTen chosen ⊎ IsOneDeleted chosen)
-        → merged_count (option_map (next_merge_by caller r) (option_map (map (λ s. s.generation)) o))
-        ≤ 10
+        → merged_count (option_map (next_merge_by caller r)
+        (option_map (map (λ s. s.generation)) o)) ≤ 10
     by_planned None kind = omega arith
     by_planned (Some chosen) kind = by_kind chosen kind
 

@@ -1,7 +1,7 @@
 -- The rows that a view prints are those of the documents that have their numbers.
-use Rattle.std.proofs.Common.{◌≡◌, ◌≤◌, ◌<◌, ◌⊎◌, inl, inr, ◌+◌, ℕ, zero, suc, Bool, true, false, cond}
-use Rattle.std.proofs.Common.{List, [], ◌∷◌, ◌++◌, length, map, take, drop, Some}
-use Rattle.std.proofs.Common.{refl, sym, ap, ◌∙◌, subst, arith}
+use Rattle.std.proofs.Common.{◌≡◌, ◌≤◌, ◌<◌, ◌⊎◌, inl, inr, ◌+◌, ℕ, zero, suc, Bool, true, false}
+use Rattle.std.proofs.Common.{cond, List, [], ◌∷◌, ◌++◌, length, map, take, drop, Some, refl, sym}
+use Rattle.std.proofs.Common.{ap, ◌∙◌, subst, arith}
 use Rattle.std.specs.Prelude.{filter, find, get_or, ◌==◌, nat_eq}
 use Rattle.std.specs.List.{AllByRecursion, All}
 use Rattle.std.proofs.lemmas.Bool.Decides.{nat_tests}
@@ -10,7 +10,8 @@ use Rattle.std.proofs.lemmas.List.Elements.{All-head, All-tail}
 use Rattle.sg_base.specs.Lists.{In}
 use Rattle.sg_base.specs.declared.hit.Hit.{Hit}
 use Rattle.sg_paths.specs.Documents.{PlainSuggestion}
-use Rattle.sg_paths.specs.Operations.{PlainOp, adds, updates, deletes, PlainNumbered, documents_from}
+use Rattle.sg_paths.specs.Operations.{PlainOp, adds, updates, deletes, PlainNumbered}
+use Rattle.sg_paths.specs.Operations.{documents_from}
 use Rattle.sg_paths.proofs.LiveDocumentsLemmas.{documents_from-append}
 use Rattle.sg_answers.specs.Reports.{ViewedSegment}
 use Rattle.segment.specs.Items.{total_of}

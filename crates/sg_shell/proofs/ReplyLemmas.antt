@@ -17,8 +17,7 @@ use Rattle.wire_replies.specs.Replies.{Reply, failed, reply_text}
 use Rattle.wire_replies.specs.declared.error_kind.ErrorKind.TheVariants.{Views as NoRoom}
 use Rattle.wire_replies.specs.declared.error_kind.ErrorKind.TheVariants.{View as NoView}
 use Rattle.sg_shell.specs.Lines.{lines_of}
-use Rattle.sg_shell.specs.Transcripts.{Line, Said, lines_from, input_lines, output}
-use Rattle.sg_shell.specs.Transcripts.{standard}
+use Rattle.sg_shell.specs.Transcripts.{Line, Said, lines_from, input_lines, output, standard}
 use Rattle.sg_shell.specs.Workers.{Open, Worker, untouched, Expected, prints, reports, Step}
 use Rattle.sg_shell.specs.Workers.{named, named_step, query_step, step}
 use Rattle.sg_shell.specs.Runs.{Meets, IsReportReply, Adds, Ran}
@@ -139,7 +138,8 @@ all_more P (f ∷ fs) e all last = (all.0, all_more P fs e all.1 last)
 output-more : (t : List Said) (line : Line) (reply : Reply)
     → output (t ++ record { line = line; reply = reply } ∷ []) ≡ output t ++ reply_text reply
 output-more t line reply =
-    flat_map-append (λ (e : Said). reply_text e.reply) t (record { line = line; reply = reply } ∷ [])
+    flat_map-append (λ (e : Said). reply_text e.reply) t
+    (record { line = line; reply = reply } ∷ [])
     ∙ ap (λ (text : List ℕ). output t ++ text) (append-nil (reply_text reply))
 
 whole-more : (whole so_far : List Line) (n : ℕ) (bytes line rest : List ℕ)
@@ -237,7 +237,8 @@ ran-more input n bytes line rest out out' w w' None holds counted read split a t
     let g = gained (n + 1) (command_of standard LANES line) w w' None holds counted read a in
     ran-silent input n bytes line rest out out' w w' split before a text g.0 g.1
 ran-more input n bytes line rest out out' w w' (Some reply) holds counted read split a text before =
-    let g = gained (n + 1) (command_of standard LANES line) w w' (Some reply) holds counted read a in
+    let g = gained (n + 1) (command_of standard LANES line) w w' (Some reply) holds counted read a
+    in
     ran-said input n bytes line rest out out' w w' split before reply a text g.0 g.1
 
 -- ---- the end

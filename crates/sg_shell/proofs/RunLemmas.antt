@@ -13,8 +13,7 @@ use Rattle.sg_shell.specs.Rows.{printed_rows}
 use Rattle.sg_shell.specs.Transcripts.{Line, Said}
 use Rattle.sg_shell.specs.Workers.{Worker, Expected, prints, reports, step}
 use Rattle.sg_shell.specs.Runs.{segments_seen, IsReportReply, Meets, Adds}
-use Rattle.sg_shell.specs.RunLaws.{OneLineMore, IsTruncated, AllAlike}
-use Rattle.sg_shell.specs.RunLaws.{OnlyTruncatedRepliesDiffer}
+use Rattle.sg_shell.specs.RunLaws.{OneLineMore, IsTruncated, AllAlike, OnlyTruncatedRepliesDiffer}
 
 -- ---- one line more
 
@@ -22,8 +21,13 @@ pub one_more : OneLineMore
 one_more caller w [] t w' line said ran adds =
     let here = subst (λ (x : Worker).
     Adds line (step caller line.number line.command x).expected said) ran.1 adds in
-    let after = ap (λ (x : Worker). (step caller line.number line.command x).after) ran.1 in
-    (said, [], ap (λ (es : List Said). es ++ said) ran.0 ∙ sym (append-nil said), here, (refl, after))
+    let after = ap (λ (x : Worker). (step caller line.number line.command x).after) ran.1 in (
+      said,
+      [],
+      ap (λ (es : List Said). es ++ said) ran.0 ∙ sym (append-nil said),
+      here,
+      (refl, after),
+    )
 one_more caller w (l ∷ ls) t w' line said ran adds = (
   ran.0,
   ran.1 ++ said,

@@ -77,8 +77,8 @@ ReportsAreAnswers =
 abbrev pub told : Open → NamedView
 told o = record { name = o.name; upto = o.view.upto }
 
--- of lines that are read each reply is one that its line may have, and the names of a worker's views
--- are those that its lines tell
+-- of lines that are read each reply is one that its line may have, and the names of a worker's
+-- views are those that its lines tell
 abbrev pub NamesAreKept : Type 0
 NamesAreKept =
     (caller : ℕ) (lines : List Line) (t : List Said) (w : Worker)

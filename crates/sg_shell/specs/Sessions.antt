@@ -1,8 +1,8 @@
 -- What an output says of an input, for one worker and one phase. Source: this project's own; the
 -- numbers and refreshes are those of Lucene's IndexWriter and its near-real-time readers.
 use Rattle.std.specs.Prelude.{◌≡◌, ◌≤◌, ◌<◌, ◌⊎◌, ⊤, ℕ, Bool, true, false, not, bytes_eq, List, []}
-use Rattle.std.specs.Prelude.{◌∷◌, ◌++◌, length, map, filter, find, take, Option, Some, None, IfSome}
-use Rattle.std.specs.Prelude.{All, AllPairs}
+use Rattle.std.specs.Prelude.{◌∷◌, ◌++◌, length, map, filter, find, take, Option, Some, None}
+use Rattle.std.specs.Prelude.{IfSome, All, AllPairs}
 use Rattle.std.specs.List.{filter_map, enumerate_from}
 use Rattle.sg_base.specs.Cuts.{PlainCut}
 use Rattle.sg_base.specs.declared.rank.Rank.{Rank}
@@ -14,8 +14,7 @@ use Rattle.index_core.specs.declared.limits.TheConstants.{MOST_OPERATIONS, MOST_
 use Rattle.index_single.specs.declared.caller.TheConstants.{CALLER}
 use Rattle.wire_json.specs.Commands.{Command, blank, accepts, suggests, opens, closes, flushes}
 use Rattle.wire_json.specs.Commands.{merges, refused}
-use Rattle.wire_replies.specs.Replies.{Reply, numbered, rows, opened, closed, built, merged}
-use Rattle.wire_replies.specs.Replies.{failed}
+use Rattle.wire_replies.specs.Replies.{Reply, numbered, rows, opened, closed, built, merged, failed}
 use Rattle.wire_replies.specs.Rows.{Row}
 use Rattle.wire_replies.specs.declared.error_kind.ErrorKind.TheVariants.{Full, View as NoView}
 use Rattle.wire_replies.specs.declared.error_kind.ErrorKind.TheVariants.{Views}

@@ -11,6 +11,7 @@ use Rattle.index_core.specs.Histories.{begun_views, open_views}
 use Rattle.index_core.specs.HeldGenerations.{WereDrawn}
 use Rattle.index_core.specs.LegalHistories.{IsLegal}
 use Rattle.index_core.specs.Calls.{after_begin, begun_by}
+use Rattle.index_shared.specs.OwnViews.{view_in}
 use Rattle.index_shared.specs.Sections.{Extends}
 use Rattle.index_single.specs.declared.caller.TheConstants.{CALLER}
 use Rattle.sg_view.specs.Viewing.{LiveSegment, PlainView, viewed_segments}
@@ -60,18 +61,9 @@ pub record NamedBuilt : Type 0 where
   pub name : List ℕ
   pub view : PlainView
 
--- the view of a record that a built one is of
-abbrev pub view_in : PlainView → View
-view_in v = record {
-  caller = CALLER;
-  view = v.number;
-  upto = v.upto;
-  generations = v.generations;
-}
-
 -- a named view as the worker of the definitions has it
 abbrev pub open_of : NamedBuilt → Open
-open_of o = record { name = o.name; view = view_in o.view }
+open_of o = record { name = o.name; view = view_in CALLER o.view }
 
 -- the worker of the definitions
 abbrev pub worker_of : Record → List NamedBuilt → Worker
@@ -79,8 +71,8 @@ worker_of r opened = record { seen = r; kept = map open_of opened }
 
 -- a built view sees what the record says, of generations that were drawn
 pub record IsShown (r : Record) (v : PlainView) : Type 0 where
-  pub is_in : IsViewIn r (view_in v)
-  pub sees : viewed_segments v ≡ segments_seen r (view_in v)
+  pub is_in : IsViewIn r (view_in CALLER v)
+  pub sees : viewed_segments v ≡ segments_seen r (view_in CALLER v)
   pub drawn : WereDrawn r v.generations
 
 -- the record is legal, the named views are the open ones, and each sees what the record says
@@ -126,8 +118,8 @@ abbrev pub Begins : Record → Record → Option PlainView → Type 0
 Begins old new None = (MOST_OPEN_VIEWS ≤ length (open_views old.history)) × (new ≡ old)
 Begins old new (Some v) =
     (length (open_views old.history) < MOST_OPEN_VIEWS) × (new ≡ after_begin CALLER old)
-    × (view_in v ≡ begun_by CALLER old) × IsShown new v
-    × Contains (open_views new.history) (view_in v)
+    × (view_in CALLER v ≡ begun_by CALLER old) × IsShown new v
+    × Contains (open_views new.history) (view_in CALLER v)
 
 -- a hit of a view as it is printed
 abbrev pub hit_row : List LiveSegment → Hit → Row

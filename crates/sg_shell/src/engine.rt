@@ -1,23 +1,25 @@
 //! What each line does to the index and to the named views, and what it prints.
-ghost use Rattle.std.specs.Prelude.{◌≡◌, ◌≤◌, ℕ, [], None, bytes_eq, Contains, IfOk, option_map, map};
+ghost use Rattle.std.specs.Prelude.{◌≡◌, ◌≤◌, ℕ, [], None, bytes_eq, Contains, IfOk, option_map};
+ghost use Rattle.std.specs.Prelude.{map};
 ghost use Rattle.std.specs.List.{position_from};
 ghost use Rattle.sg_paths.specs.Operations.{plain_op};
 ghost use Rattle.index_core.specs.Histories.{Record};
 ghost use Rattle.index_core.specs.Records.{open_views};
 ghost use Rattle.index_core.specs.LegalHistories.{IsLegal};
 ghost use Rattle.index_core.specs.Calls.{empty_record, after_end};
+ghost use Rattle.index_shared.specs.OwnViews.{view_in};
 ghost use Rattle.index_single.specs.declared.caller.TheConstants.{CALLER};
 ghost use Rattle.sg_answers.specs.declared.limits.TheConstants.{MOST_QUEUED};
 ghost use Rattle.wire_json.specs.Commands.{suggests, command_of};
 ghost use Rattle.wire_json.specs.CommandForms.{plain_command, IsRead};
 ghost use Rattle.wire_replies.specs.ReplyForms.{plain_reply};
 ghost use Rattle.sg_shell.specs.Transcripts.{standard};
-ghost use Rattle.sg_shell.specs.Workers.{Worker as PlainWorker, accept_step, query_step, named_step};
-ghost use Rattle.sg_shell.specs.Workers.{open_step, close_step, flush_step, merge_step, step};
-ghost use Rattle.sg_shell.specs.Workers.{named, with_seen};
+ghost use Rattle.sg_shell.specs.Workers.{Worker as PlainWorker, accept_step, query_step};
+ghost use Rattle.sg_shell.specs.Workers.{named_step, open_step, close_step, flush_step, merge_step};
+ghost use Rattle.sg_shell.specs.Workers.{step, named, with_seen};
 ghost use Rattle.sg_shell.specs.Runs.{IsReportReply};
 ghost use Rattle.sg_shell.specs.Working.{Passes, IsWorking, IsShown, Answers, MayAnswer};
-ghost use Rattle.sg_shell.specs.Working.{worker_of, open_of, view_in, Holds};
+ghost use Rattle.sg_shell.specs.Working.{worker_of, open_of, Holds};
 
 use crate::merging::merge;
 use crate::opened::{Opened, end_opened, position_of};
@@ -106,9 +108,9 @@ fn answer_and_end(
     query: &Query,
     view: View,
 ) -> Result<Reply, AllocError>
-    requires { Contains (open_views index.old) (view_in view) }
+    requires { Contains (open_views index.old) (view_in CALLER view) }
     ensures reply { IfOk result (λ reply. (r : Record) → IsShown r view
-        → IsReportReply line (plain_reply reply) r (view_in view) query.now) }
+        → IsReportReply line (plain_reply reply) r (view_in CALLER view) query.now) }
     ensures few { query.now.k ≤ MOST_QUEUED }
     ensures ended { index.new ≡ after_end CALLER view.number index.old }
     ensures legal { IsLegal index.new }

@@ -4,8 +4,8 @@ ghost use Rattle.std.specs.List.{position_from};
 ghost use Rattle.index_core.specs.Records.{open_views};
 ghost use Rattle.index_core.specs.LegalHistories.{IsLegal};
 ghost use Rattle.index_core.specs.Calls.{after_end};
+ghost use Rattle.index_shared.specs.OwnViews.{view_in};
 ghost use Rattle.index_single.specs.declared.caller.TheConstants.{CALLER};
-ghost use Rattle.sg_shell.specs.Working.{view_in};
 
 use crate::viewing::end;
 use index_single::SingleIndex;
@@ -43,7 +43,7 @@ pub(crate) fn position_of(opened: &Vec<Opened>, name: &Text) -> Option<usize>
 
 /// Ends the view. Takes no memory.
 pub(crate) fn end_opened(index: &mut SingleIndex, wait: &impl Wait, opened: Opened)
-    requires { Contains (open_views index.old) (view_in opened.view) }
+    requires { Contains (open_views index.old) (view_in CALLER opened.view) }
     ensures ended { index.new ≡ after_end CALLER opened.view.number index.old }
     ensures legal { IsLegal index.new }
 {

@@ -1,6 +1,5 @@
 //! Views of the index, and what a query prints in one.
-ghost use Rattle.std.specs.Prelude.{◌≡◌, ◌≤◌, All, Contains, IfOk, OnOk, OnErr, map};
-ghost use Rattle.std.specs.Prelude.{List as Items};
+ghost use Rattle.std.specs.Prelude.{◌≡◌, ◌≤◌, All, Contains, IfOk, OnOk, OnErr, map, List as Items};
 ghost use Rattle.sg_paths.specs.Operations.{PlainOp};
 ghost use Rattle.sg_answers.specs.Reports.{IsReport};
 ghost use Rattle.collector.specs.Hits.{rows_of};
@@ -11,13 +10,14 @@ ghost use Rattle.index_core.specs.LegalHistories.{IsLegal};
 ghost use Rattle.index_core.specs.OpenViews.{view_of};
 ghost use Rattle.index_core.specs.Calls.{after_end};
 ghost use Rattle.segment.specs.Views.{AreParts};
+ghost use Rattle.index_shared.specs.OwnViews.{view_in};
 ghost use Rattle.sg_view.specs.Viewing.{IsViewOf, Represents, viewed_segments};
 ghost use Rattle.sg_view.specs.Rows.{HasHit, IsNumbered, hit_key};
 ghost use Rattle.index_shared.specs.Offers.{after_flush, built_by_flush};
 ghost use Rattle.index_single.specs.declared.caller.TheConstants.{CALLER};
 ghost use Rattle.wire_replies.specs.ReplyForms.{plain_reply};
 ghost use Rattle.sg_shell.specs.Runs.{IsReportReply};
-ghost use Rattle.sg_shell.specs.Working.{Passes, IsShown, Begins, view_in, hit_row};
+ghost use Rattle.sg_shell.specs.Working.{Passes, IsShown, Begins, hit_row};
 
 use collector::Report;
 use index_core::ViewError;
@@ -30,9 +30,9 @@ use std::alloc::{AllocError, Global};
 use std::sync::Wait;
 use wire_replies::{OutRow, Reply};
 
-/// Brings the index up to date: what is buffered is frozen, the segments that are missing are built,
-/// and all deletes that are frozen applied. Answers how many segments it built. Want of memory may
-/// come between two of these steps, and what was done stays done.
+/// Brings the index up to date: what is buffered is frozen, the segments that are missing are
+/// built, and all deletes that are frozen applied. Answers how many segments it built. Want of
+/// memory may come between two of these steps, and what was done stays done.
 pub(crate) fn refresh(index: &mut SingleIndex, wait: &impl Wait) -> Result<u32, AllocError>
     ensures count { IfOk result (λ count. count ≡ built_by_flush CALLER index.old) }
     ensures ok { OnOk result (index.new ≡ after_flush CALLER index.old) }
@@ -79,7 +79,7 @@ pub(crate) fn begin(index: &mut SingleIndex, wait: &impl Wait) -> Result<Option<
 
 /// Ends a view. Takes no memory.
 pub(crate) fn end(index: &mut SingleIndex, wait: &impl Wait, view: View)
-    requires { Contains (open_views index.old) (view_in view) }
+    requires { Contains (open_views index.old) (view_in CALLER view) }
     ensures ended { index.new ≡ after_end CALLER view.number index.old }
     ensures legal { IsLegal index.new }
 {
@@ -138,7 +138,7 @@ pub(crate) fn answer_in(
     query: &Query,
 ) -> Result<Reply, AllocError>
     ensures reply { IfOk result (λ reply. (r : Record) → IsShown r view.now
-        → IsReportReply line (plain_reply reply) r (view_in view.now) query.now) }
+        → IsReportReply line (plain_reply reply) r (view_in CALLER view.now) query.now) }
     ensures few { query.now.k ≤ MOST_QUEUED }
 {
     is_few(query);

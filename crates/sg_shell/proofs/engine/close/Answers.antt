@@ -2,7 +2,9 @@
 use Rattle.std.proofs.Common.{◌∙◌, sym, subst, arith}
 use Rattle.std.specs.Prelude.{Contains}
 use Rattle.index_core.specs.Records.{open_views}
-use Rattle.sg_shell.specs.Working.{NamedBuilt, view_in}
+use Rattle.index_shared.specs.OwnViews.{view_in}
+use Rattle.index_single.specs.declared.caller.TheConstants.{CALLER}
+use Rattle.sg_shell.specs.Working.{NamedBuilt}
 use Rattle.sg_shell.proofs.CloseLemmas.{is_open}
 use Rattle.sg_shell.proofs.NamedLemmas.{found_at, close_unknown, close_found}
 use Rattle.sg_shell.proofs.engine.close.Goals as goal
@@ -19,26 +21,19 @@ pub end_opened-requires : goal.end_opened-requires
 end_opened-requires g c =
     let found = found_at c.args.name c.args.opened.now.items c.in-Some.at
     (sym c.position_of.ensures ∙ c.in-Some.is) in
-    subst (λ (o : NamedBuilt). Contains (open_views c.args.index.now) (view_in o.view))
+    subst (λ (o : NamedBuilt). Contains (open_views c.args.index.now) (view_in CALLER o.view))
     (sym c.remove-closed.ensures.value)
     (is_open c.args.index.now c.args.opened.now.items c.in-Some.at c.remove-closed.result
     c.requires.holds found.within)
 
-pub returns-in-Some-clause-reply : goal.returns-in-Some-clause-reply
-returns-in-Some-clause-reply g c =
-    (close_found c.args.line c.args.name c.args.index.now c.end_opened.new.index
+pub returns-in-Some : goal.returns-in-Some
+returns-in-Some g c =
+    let done = close_found c.args.line c.args.name c.args.index.now c.end_opened.new.index
     c.args.opened.now.items c.remove-closed.new.self.items c.in-Some.at c.remove-closed.result
     c.end_opened.ensures.legal c.requires
     (sym c.position_of.ensures ∙ c.in-Some.is) c.remove-closed.ensures.value
-    c.remove-closed.ensures.items c.end_opened.ensures.ended).answers
-
-pub returns-in-Some-clause-working : goal.returns-in-Some-clause-working
-returns-in-Some-clause-working g c =
-    (close_found c.args.line c.args.name c.args.index.now c.end_opened.new.index
-    c.args.opened.now.items c.remove-closed.new.self.items c.in-Some.at c.remove-closed.result
-    c.end_opened.ensures.legal c.requires
-    (sym c.position_of.ensures ∙ c.in-Some.is) c.remove-closed.ensures.value
-    c.remove-closed.ensures.items c.end_opened.ensures.ended).working
+    c.remove-closed.ensures.items c.end_opened.ensures.ended in
+    record { reply = done.answers; working = done.working }
 
 pub returns-in-None-clause-reply : goal.returns-in-None-clause-reply
 returns-in-None-clause-reply g c =

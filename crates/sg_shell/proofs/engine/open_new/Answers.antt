@@ -20,42 +20,24 @@ returns-in_err-view-clause-working g c =
     (passes_both c.args.index.now c.refresh.new.index c.begin.new.index
     c.in_ok-refresh.ensures.passes c.in_err-view.ensures.err) c.requires.working)
 
-pub returns-in-Some-clause-reply : goal.returns-in-Some-clause-reply
-returns-in-Some-clause-reply g c =
-    (open_begins c.args.line c.upto-upto.result c.args.name c.in_ok-shown.shown c.args.index.now
-    c.refresh.new.index c.begin.new.index c.args.opened.now.items c.reserve.new.self.items
-    c.push_reserved.new.self.items c.in-Some.view c.in_ok-view.ensures.legal
-    c.requires.working c.requires.new
+pub returns-in-Some : goal.returns-in-Some
+returns-in-Some g c =
+    let done = open_begins c.args.line c.upto-upto.result c.args.name c.in_ok-shown.shown
+    c.args.index.now c.refresh.new.index c.begin.new.index c.args.opened.now.items
+    c.reserve.new.self.items c.push_reserved.new.self.items c.in-Some.view
+    c.in_ok-view.ensures.legal c.requires.working c.requires.new
     c.in_ok-refresh.ensures.ok c.in_ok-refresh.ensures.passes
     (subst (λ (o : Option PlainView). Begins c.refresh.new.index c.begin.new.index o) c.in-Some.is
     c.in_ok-view.ensures.ok) c.upto-upto.ensures
     (c.in_ok-shown.ensures ∙ c.as_str.ensures.text) c.reserve.ensures.items
-    c.push_reserved.ensures.items).answers
+    c.push_reserved.ensures.items in
+    record { reply = done.answers; working = done.working }
 
-pub returns-in-Some-clause-working : goal.returns-in-Some-clause-working
-returns-in-Some-clause-working g c =
-    (open_begins c.args.line c.upto-upto.result c.args.name c.in_ok-shown.shown c.args.index.now
-    c.refresh.new.index c.begin.new.index c.args.opened.now.items c.reserve.new.self.items
-    c.push_reserved.new.self.items c.in-Some.view c.in_ok-view.ensures.legal
-    c.requires.working c.requires.new
-    c.in_ok-refresh.ensures.ok c.in_ok-refresh.ensures.passes
-    (subst (λ (o : Option PlainView). Begins c.refresh.new.index c.begin.new.index o) c.in-Some.is
-    c.in_ok-view.ensures.ok) c.upto-upto.ensures
-    (c.in_ok-shown.ensures ∙ c.as_str.ensures.text) c.reserve.ensures.items
-    c.push_reserved.ensures.items).working
-
-pub returns-in-None-clause-reply : goal.returns-in-None-clause-reply
-returns-in-None-clause-reply g c =
-    (open_is_full c.args.line c.args.name c.args.index.now c.refresh.new.index c.begin.new.index
-    c.args.opened.now.items c.reserve.new.self.items c.requires.working c.requires.new
-    c.in_ok-refresh.ensures.ok c.in_ok-refresh.ensures.passes
+pub returns-in-None : goal.returns-in-None
+returns-in-None g c =
+    let full = open_is_full c.args.line c.args.name c.args.index.now c.refresh.new.index
+    c.begin.new.index c.args.opened.now.items c.reserve.new.self.items c.requires.working
+    c.requires.new c.in_ok-refresh.ensures.ok c.in_ok-refresh.ensures.passes
     (subst (λ (o : Option PlainView). Begins c.refresh.new.index c.begin.new.index o) c.in-None.is
-    c.in_ok-view.ensures.ok) c.reserve.ensures.items).answers
-
-pub returns-in-None-clause-working : goal.returns-in-None-clause-working
-returns-in-None-clause-working g c =
-    (open_is_full c.args.line c.args.name c.args.index.now c.refresh.new.index c.begin.new.index
-    c.args.opened.now.items c.reserve.new.self.items c.requires.working c.requires.new
-    c.in_ok-refresh.ensures.ok c.in_ok-refresh.ensures.passes
-    (subst (λ (o : Option PlainView). Begins c.refresh.new.index c.begin.new.index o) c.in-None.is
-    c.in_ok-view.ensures.ok) c.reserve.ensures.items).working
+    c.in_ok-view.ensures.ok) c.reserve.ensures.items in
+    record { reply = full.answers; working = full.working }
