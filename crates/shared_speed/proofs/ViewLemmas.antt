@@ -1,5 +1,5 @@
 -- A view that a handle has begun is among those that it has open, as a ticket and once it is built.
-use Rattle.std.proofs.Common.{◌≡◌, ℕ, List, [], ◌∷◌, ◌++◌, refl, sym, ap, ◌∙◌, subst, arith}
+use Rattle.std.proofs.Common.{◌≡◌, ℕ, List, [], ◌∷◌, ◌++◌, refl, sym, ap, subst, arith}
 use Rattle.std.specs.Prelude.{Contains}
 use Rattle.std.proofs.lemmas.List.Elements.{Contains-append_right}
 use Rattle.segment.specs.Views.{PlainParts}
@@ -8,6 +8,7 @@ use Rattle.index_core.specs.Histories.{View}
 use Rattle.index_core.specs.OpenViews.{view_of}
 use Rattle.index_shared.specs.Sections.{HandleState, IsSameHandle, seen_by}
 use Rattle.index_shared.specs.OwnViews.{open_by, view_in}
+use Rattle.index_shared.proofs.OwnViewLemmas.{view_in-view_of}
 
 -- the open views of a handle
 abbrev views : HandleState → List View
@@ -23,21 +24,12 @@ ticket_is_open old new parts same opened =
     subst (λ (n : ℕ). Contains (open_by n (seen_by new)) (view_of n parts)) (sym number)
     (subst (λ (vs : List View). Contains vs (view_of old.number parts)) (sym opened) last)
 
--- parts with the number, the upto and the generations of others are of the same view
-same_view : (n : ℕ) (parts others : PlainParts) → parts.number ≡ others.number
-    → parts.upto ≡ others.upto → parts.generations ≡ others.generations
-    → view_of n parts ≡ view_of n others
-same_view n parts others number upto generations = rw (number, upto, generations) refl
-
 pub view_is_open : (old new : HandleState) (ticket : PlainParts) (v : PlainView)
     → IsSameHandle old new
     → open_by old.number (seen_by new) ≡ views old ++ view_of old.number ticket ∷ []
     → IsViewOf ticket v → Contains (views new) (view_in new.number v)
 view_is_open old new ticket v same opened is =
-    let built : PlainParts =
-    record ticket { number = v.number; upto = v.upto; generations = v.generations } in
-    subst (λ (w : View). Contains (views new) w)
-    (sym (same_view new.number built ticket is.number is.upto is.generations))
+    subst (λ (w : View). Contains (views new) w) (sym (view_in-view_of new.number ticket v is))
     (ticket_is_open old new ticket same opened)
 
 -- a view that was built and taken apart
@@ -47,7 +39,7 @@ pub parts_are_open : (old new : HandleState) (ticket parts : PlainParts) (v : Pl
     → IsViewOf ticket v → parts.number ≡ v.number → parts.upto ≡ v.upto
     → parts.generations ≡ v.generations → Contains (views new) (view_of new.number parts)
 parts_are_open old new ticket parts v same opened is number upto generations =
-    subst (λ (w : View). Contains (views new) w)
-    (sym (same_view new.number parts ticket (number ∙ is.number) (upto ∙ is.upto)
-    (generations ∙ is.generations)))
-    (ticket_is_open old new ticket same opened)
+    let built : view_of new.number parts ≡ view_in new.number v =
+    rw (number, upto, generations) refl in
+    subst (λ (w : View). Contains (views new) w) (sym built)
+    (view_is_open old new ticket v same opened is)

@@ -1,5 +1,5 @@
-//! Threads that share one index, to see how fast it is, for `bench/shared`. Each has a handle of its
-//! own.
+//! Threads that share one index, to see how fast it is, for `bench/shared`. Each has a handle of
+//! its own.
 //!
 //! - `shared_speed accept THREADS TIMES`: so many threads add so many documents each.
 //! - `shared_speed query THREADS TIMES`: so many threads ask so many queries each, over one segment

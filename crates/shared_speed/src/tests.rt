@@ -1,5 +1,5 @@
-//! An index through its handles: threads beside one another, a merge beside changes, and a queue that
-//! deleted documents spend.
+//! An index through its handles: threads beside one another, a merge beside changes, and a queue
+//! that deleted documents spend.
 ghost use Rattle.std.specs.Prelude.{◌<◌, All, length};
 ghost use Rattle.std.specs.Thread.{IsSync};
 ghost use Rattle.index_shared.specs.Sections.{IsAt};
