@@ -1,4 +1,6 @@
-use sg_analysis::{Analyzer, KeyError};
+use crate::table::{assert_same, given};
+use sg_analysis::Analyzer;
+use std::alloc::Global;
 use std::test::Fail;
 
 // A row each: what it shows, a text and its key, with a separator between tokens written as `_`.
@@ -19,41 +21,77 @@ white space at both ends|  New \t York\u{3000}|new_york
 white space of many kinds|a\u{b}b\u{c}c\u{a0}d\u{1680}e\u{2003}f\u{2028}g\u{2029}h|a_b_c_d_e_f_g_h
 white space of the NFKC form|a\u{a8}b|a_\u{308}b
 no white space|a\u{1c}b\u{200b}c|a\u{1c}b\u{200b}c
-the fiftieth character is the last|aaaaaaaaaabbbbbbbbbbccccccccccddddddddddeeeeeeeeeef|aaaaaaaaaabbbbbbbbbbccccccccccddddddddddeeeeeeeeee";
+the fiftieth character is the last|aaaaaaaaaabbbbbbbbbbccccccccccddddddddddeeeeeeeeeef|aaaaaaaaaabbbbbbbbbbccccccccccddddddddddeeeeeeeeee
+";
+
+// The key of a text, behind what stands before it in its row.
+fn push_key(told: &mut String, text: &str) -> Result<(), Fail> {
+    let analyzer = Analyzer { separators: true };
+    let key = analyzer.key(*told.allocator(), text, true)?;
+    let spelled = str::from_utf8(key.as_slice())?;
+    let spelled = spelled.replace(*told.allocator(), "\u{1f}", "_")?;
+    write!(told, "|{spelled}\n")?;
+    Ok(())
+}
+
+fn push_row(told: &mut String, row: &str) -> Result<(), Fail> {
+    let Some((front, text)) = given(row) else {
+        return Err("no key".into());
+    };
+    told.push_str(front)?;
+    push_key(told, text)
+}
+
+fn rows_again(alloc: Global) -> Result<String, Fail> {
+    let mut told = String::new(alloc);
+    for row in KEYS.lines() {
+        push_row(&mut told, row)?;
+    }
+    Ok(told)
+}
 
 #[test]
 fn texts_have_the_keys_of_unicode(rt: HostRuntime) -> Result<(), Fail> {
-    let analyzer = Analyzer { separators: true };
-    for row in KEYS.split('\n') {
-        let (name, rest) = row.split_once('|').ok_or("no text")?;
-        let (text, wanted) = rest.split_once('|').ok_or("no key")?;
-        let wanted = wanted.replace(rt.alloc(), "_", "\u{1f}")?;
-        let key = analyzer.key(rt.alloc(), text, true)?;
-        assert_eq!(rt; key.as_slice(), wanted.as_bytes(), "{name}");
-    }
+    let told = rows_again(rt.alloc())?;
+    assert_same(&rt, told.as_str(), KEYS);
     Ok(())
+}
+
+fn run_together(alloc: Global, text: &str) -> Result<String, Fail> {
+    let analyzer = Analyzer { separators: false };
+    let key = analyzer.key(alloc, text, false)?;
+    Ok(String::from_str(alloc, str::from_utf8(key.as_slice())?)?)
 }
 
 #[test]
 fn without_separators_tokens_run_together(rt: HostRuntime) -> Result<(), Fail> {
-    let analyzer = Analyzer { separators: false };
-    let key = analyzer.key(rt.alloc(), " New\tYork 1", false)?;
-    assert_eq!(rt; key.as_slice(), b"newyork1".as_slice());
+    let told = run_together(rt.alloc(), " New\tYork 1")?;
+    assert_same(&rt, told.as_str(), "newyork1");
+    Ok(())
+}
+
+// How many bytes the key of a text that is repeated has, or why it has none.
+fn push_length(told: &mut String, text: &str, times: usize, cut: bool) -> Result<(), Fail> {
+    let analyzer = Analyzer { separators: true };
+    let text = text.repeat(*told.allocator(), times)?;
+    match analyzer.key(*told.allocator(), text.as_str(), cut) {
+        Ok(key) => write!(told, "{} bytes\n", key.as_slice().len())?,
+        Err(error) => write!(told, "{error}\n")?,
+    }
     Ok(())
 }
 
 // One character has four tokens of 33 bytes with what stands between them, so eight have 264.
+fn lengths(alloc: Global) -> Result<String, Fail> {
+    let mut told = String::new(alloc);
+    push_length(&mut told, "\u{fdfa}", 8, true)?;
+    push_length(&mut told, "\u{1f82}", 51, false)?;
+    Ok(told)
+}
+
 #[test]
 fn a_key_is_too_long_by_its_own_bytes(rt: HostRuntime) -> Result<(), Fail> {
-    let analyzer = Analyzer { separators: true };
-    let text = "\u{fdfa}".repeat(rt.alloc(), 8)?;
-    let answer = analyzer.key(rt.alloc(), text.as_str(), true);
-    assert!(rt;
-        answer.err() == Some(KeyError::TooLong { bytes: 264 }),
-        "264 bytes"
-    );
-    let text = "\u{1f82}".repeat(rt.alloc(), 51)?;
-    let key = analyzer.key(rt.alloc(), text.as_str(), false)?;
-    assert_eq!(rt; key.as_slice().len(), 255);
+    let told = lengths(rt.alloc())?;
+    assert_same(&rt, told.as_str(), "the key has 264 bytes\n255 bytes\n");
     Ok(())
 }

@@ -1,4 +1,5 @@
 use crate::making::asked_of;
+use crate::table::{assert_same, given};
 use sg_context::boost_of;
 use std::alloc::Global;
 use std::test::Fail;
@@ -17,26 +18,40 @@ one that is longer|fr*=4|f|-
 the empty beginning|*=5|köln|5
 the empty context|=5|köln|-
 the empty context in itself|=5||5
-the greatest boost of all|x=2147483647|x|2147483647";
+the greatest boost of all|x=2147483647|x|2147483647
+";
 
-fn shown(alloc: Global, boost: Option<u32>) -> Result<String, Fail> {
+fn push_boost(told: &mut String, asked: &str, context: &str) -> Result<(), Fail> {
+    let asked = asked_of(*told.allocator(), asked)?;
+    match boost_of(asked.as_slice(), context.as_bytes()) {
+        Some(boost) => write!(told, "|{boost}\n")?,
+        None => told.push_str("|-\n")?,
+    }
+    Ok(())
+}
+
+fn push_row(told: &mut String, row: &str) -> Result<(), Fail> {
+    let Some((front, given)) = given(row) else {
+        return Err("no boost".into());
+    };
+    let Some((asked, context)) = given.split_once('|') else {
+        return Err("no context".into());
+    };
+    told.push_str(front)?;
+    push_boost(told, asked, context)
+}
+
+fn rows_again(alloc: Global) -> Result<String, Fail> {
     let mut told = String::new(alloc);
-    match boost {
-        Some(boost) => write!(told, "{boost}")?,
-        None => told.push_str("-")?,
+    for row in BOOSTS.lines() {
+        push_row(&mut told, row)?;
     }
     Ok(told)
 }
 
 #[test]
 fn the_greatest_boost_that_matches_counts(rt: HostRuntime) -> Result<(), Fail> {
-    for row in BOOSTS.lines() {
-        let (name, rest) = row.split_once('|').ok_or("no query context")?;
-        let (asked, rest) = rest.split_once('|').ok_or("no context")?;
-        let (context, wanted) = rest.split_once('|').ok_or("no boost")?;
-        let asked = asked_of(rt.alloc(), asked)?;
-        let told = shown(rt.alloc(), boost_of(asked.as_slice(), context.as_bytes()))?;
-        assert_eq!(rt; told.as_str(), wanted, "{name}");
-    }
+    let told = rows_again(rt.alloc())?;
+    assert_same(&rt, told.as_str(), BOOSTS);
     Ok(())
 }

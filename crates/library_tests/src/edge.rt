@@ -1,26 +1,29 @@
+use crate::table::assert_same;
 use sg_edge::{PutError, Sink, Source, StdSink, StdSource};
-use std::alloc::Global;
+use std::alloc::{AllocError, Global};
 use std::io;
 use std::io::{ErrorKind, Read, Write};
 use std::test::Fail;
 
-// Takes once, and tells the bytes between brackets, or `-` where the call failed.
-fn push_taken<S: Source>(told: &mut String, source: &mut S, room: usize) -> Result<(), Fail> {
-    let mut into = vec![in *told.allocator(); 0u8; room]?;
-    let Ok(count) = source.take(&mut into) else {
-        told.push_str("-")?;
-        return Ok(());
-    };
-    let taken = str::from_utf8(&into[..count])?;
+fn push_bytes(told: &mut String, bytes: &[u8]) -> Result<(), Fail> {
+    let taken = str::from_utf8(bytes)?;
     write!(told, "[{taken}]")?;
     Ok(())
 }
 
-// Takes into pieces of these sizes, with blanks between them.
-fn taken<S: Source>(alloc: Global, source: &mut S, rooms: &str) -> Result<String, Fail> {
+// Takes once into four bytes, and tells those taken between brackets, or `-` where the call failed.
+fn push_taken<S: Source>(told: &mut String, source: &mut S) -> Result<(), Fail> {
+    let mut into = [0u8; 4];
+    match source.take(&mut into) {
+        Ok(count) => push_bytes(told, &into[..count]),
+        Err(_) => Ok(told.push_str("-")?),
+    }
+}
+
+fn taken<S: Source>(alloc: Global, source: &mut S, times: u8) -> Result<String, Fail> {
     let mut told = String::new(alloc);
-    for room in rooms.split_whitespace() {
-        push_taken(&mut told, source, room.parse::<usize>()?)?;
+    for _ in 0..times {
+        push_taken(&mut told, source)?;
     }
     Ok(told)
 }
@@ -53,20 +56,24 @@ fn a_source_over_a_reader_hands_on_its_answers(rt: HostRuntime) -> Result<(), Fa
         failed: false,
         bytes: b"ab",
     });
-    let told = taken(rt.alloc(), &mut source, "4 4 4 4 4")?;
-    assert_eq!(rt; told.as_str(), "-[a][b][][]");
+    let told = taken(rt.alloc(), &mut source, 5)?;
+    assert_same(&rt, told.as_str(), "-[a][b][][]");
     Ok(())
 }
 
+fn push_put(told: &mut String, put: Result<usize, PutError>) -> Result<(), AllocError> {
+    match put {
+        Ok(count) => write!(told, "{count} "),
+        Err(PutError::Failed) => told.push_str("- "),
+        Err(PutError::Memory) => told.push_str("no memory "),
+    }
+}
+
 // Puts pieces with blanks between them, and tells how many bytes of each were put, or `-`.
-fn put<S: Sink>(alloc: Global, sink: &mut S, pieces: &str) -> Result<String, Fail> {
+fn put<S: Sink>(alloc: Global, sink: &mut S, pieces: &str) -> Result<String, AllocError> {
     let mut told = String::new(alloc);
     for piece in pieces.split(' ') {
-        match sink.put(piece.as_bytes()) {
-            Ok(count) => write!(told, "{count} ")?,
-            Err(PutError::Failed) => told.push_str("- ")?,
-            Err(PutError::Memory) => return Err("no memory".into()),
-        }
+        push_put(&mut told, sink.put(piece.as_bytes()))?;
     }
     Ok(told)
 }
@@ -96,10 +103,7 @@ impl Write for TakesLate {
 fn a_sink_over_a_writer_hands_on_its_answers(rt: HostRuntime) -> Result<(), Fail> {
     let mut sink = StdSink::new(TakesLate { writes: 0 });
     let told = put(rt.alloc(), &mut sink, "abc abc abc ")?;
-    assert_eq!(rt;
-        told.as_str(),
-        "- - 1 0 ",
-        "it fails, takes none, takes one, and takes an empty piece"
-    );
+    // It fails, takes none, takes one, and takes an empty piece.
+    assert_same(&rt, told.as_str(), "- - 1 0 ");
     Ok(())
 }

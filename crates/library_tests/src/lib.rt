@@ -16,3 +16,5 @@ mod live;
 mod making;
 #[cfg(test)]
 mod printed;
+#[cfg(test)]
+mod table;

@@ -1,6 +1,7 @@
 use crate::making::document_of;
+use crate::table::{assert_same, given};
 use sg_base::{List, Text};
-use sg_paths::{Op, live_documents_of};
+use sg_paths::{Document, Numbered, Op, Suggestion, live_documents_of};
 use std::alloc::Global;
 use std::test::Fail;
 
@@ -15,10 +16,13 @@ nor another id|+x +y -x|2
 an id is no prefix|+x +xx -x|2
 an update leaves its own|+x +x =x|3
 an update of a new id adds|=x|1
-one after the other|+a +b =a -b +b -c =c -a +a|5 7 9";
+one after the other|+a +b =a -b +b -c =c -a +a|5 7 9
+";
 
 fn op_of(alloc: Global, word: &str) -> Result<Op, Fail> {
-    let (kind, id) = word.split_at_checked(1).ok_or("no kind")?;
+    let Some((kind, id)) = word.split_at_checked(1) else {
+        return Err("no kind".into());
+    };
     if kind == "-" {
         return Ok(Op::Delete(Text::of(alloc, id)?));
     }
@@ -38,39 +42,74 @@ fn journal_of(alloc: Global, spelled: &str) -> Result<List<Op>, Fail> {
     Ok(List::of(journal))
 }
 
-fn live_numbers(alloc: Global, spelled: &str) -> Result<String, Fail> {
-    let journal = journal_of(alloc, spelled)?;
-    let live = live_documents_of(alloc, journal.items())?;
+fn push_numbers(told: &mut String, documents: &[Numbered]) -> Result<(), Fail> {
+    let mut between = "";
+    for numbered in documents {
+        write!(told, "{between}{}", numbered.seq)?;
+        between = " ";
+    }
+    Ok(())
+}
+
+fn push_live(told: &mut String, spelled: &str) -> Result<(), Fail> {
+    let journal = journal_of(*told.allocator(), spelled)?;
+    let live = live_documents_of(*told.allocator(), journal.items())?;
+    push_numbers(told, live.as_slice())
+}
+
+fn push_row(told: &mut String, row: &str) -> Result<(), Fail> {
+    let Some((front, spelled)) = given(row) else {
+        return Err("no numbers".into());
+    };
+    write!(told, "{front}|")?;
+    push_live(told, spelled)?;
+    told.push_str("\n")?;
+    Ok(())
+}
+
+fn rows_again(alloc: Global) -> Result<String, Fail> {
     let mut told = String::new(alloc);
-    for numbered in live.as_slice() {
-        if !told.is_empty() {
-            told.push_str(" ")?;
-        }
-        write!(told, "{}", numbered.seq)?;
+    for row in JOURNALS.lines() {
+        push_row(&mut told, row)?;
     }
     Ok(told)
 }
 
 #[test]
 fn deletes_reach_what_came_before(rt: HostRuntime) -> Result<(), Fail> {
-    for row in JOURNALS.lines() {
-        let (name, rest) = row.split_once('|').ok_or("no operations")?;
-        let (spelled, wanted) = rest.split_once('|').ok_or("no numbers")?;
-        let told = live_numbers(rt.alloc(), spelled)?;
-        assert_eq!(rt; told.as_str(), wanted, "{name}");
+    let told = rows_again(rt.alloc())?;
+    assert_same(&rt, told.as_str(), JOURNALS);
+    Ok(())
+}
+
+fn push_suggestion(told: &mut String, suggestion: &Suggestion) -> Result<(), Fail> {
+    write!(told, " {}:{}", suggestion.text.as_str(), suggestion.weight)?;
+    for context in suggestion.contexts.items() {
+        write!(told, "@{}", context.as_str())?;
     }
     Ok(())
 }
 
+fn push_document(told: &mut String, document: &Document) -> Result<(), Fail> {
+    told.push_str(document.id.as_str())?;
+    for suggestion in document.suggestions.items() {
+        let copy = suggestion.copy()?;
+        push_suggestion(told, &copy)?;
+    }
+    Ok(())
+}
+
+fn copied(alloc: Global, id: &str, spelled: &str) -> Result<String, Fail> {
+    let document = document_of(alloc, id, spelled)?;
+    let copy = document.copy()?;
+    let mut told = String::new(alloc);
+    push_document(&mut told, &copy)?;
+    Ok(told)
+}
+
 #[test]
 fn a_copy_is_whole(rt: HostRuntime) -> Result<(), Fail> {
-    let document = document_of(rt.alloc(), "ch-1", "bern:2147483647@town")?.copy()?;
-    assert_eq!(rt; document.id.as_str(), "ch-1");
-    let first = document.suggestions.items().first();
-    let first = first.ok_or("no suggestion")?.copy()?;
-    assert_eq!(rt; first.text.as_str(), "bern");
-    assert_eq!(rt; first.weight, 2_147_483_647);
-    let context = first.contexts.items().first();
-    assert_eq!(rt; context.ok_or("no context")?.as_str(), "town");
+    let told = copied(rt.alloc(), "ch-1", "bern:2147483647@town")?;
+    assert_same(&rt, told.as_str(), "ch-1 bern:2147483647@town");
     Ok(())
 }

@@ -20,12 +20,22 @@ fn contexts_of(alloc: Global, spelled: Option<&str>) -> Result<Vec<Context>, Fai
     Ok(contexts)
 }
 
+// The key, the weight and the contexts of a suggestion.
+fn suggestion_parts(spelled: &str) -> Option<(&str, u32, Option<&str>)> {
+    let (key, rest) = spelled.split_once(':')?;
+    let (weight, contexts) = match rest.split_once('@') {
+        Some((weight, contexts)) => (weight, Some(contexts)),
+        None => (rest, None),
+    };
+    Some((key, weight.parse::<u32>().ok()?, contexts))
+}
+
 /// A suggestion: its key, `:`, its weight and, behind `@`, its contexts.
 pub fn suggestion_of(alloc: Global, spelled: &str) -> Result<Suggestion, Fail> {
-    let (key, rest) = spelled.split_once(':').ok_or("no weight")?;
-    let mut parts = rest.split('@');
-    let weight = parts.next().ok_or("no weight")?.parse::<u32>()?;
-    let contexts = contexts_of(alloc, parts.next())?;
+    let Some((key, weight, contexts)) = suggestion_parts(spelled) else {
+        return Err("no suggestion".into());
+    };
+    let contexts = contexts_of(alloc, contexts)?;
     let text = Text::of(alloc, key)?;
     Ok(Suggestion::new(text, key_of(alloc, key)?, weight, contexts)?)
 }
@@ -40,7 +50,9 @@ pub fn document_of(alloc: Global, id: &str, spelled: &str) -> Result<Document, F
 }
 
 fn query_context_of(alloc: Global, spelled: &str) -> Result<QueryContext, Fail> {
-    let (name, boost) = spelled.split_once('=').ok_or("no boost")?;
+    let Some((name, boost)) = spelled.split_once('=') else {
+        return Err("no boost".into());
+    };
     let boost = boost.parse::<u32>()?;
     let beginning = name.strip_suffix('*');
     let context = Context::new(alloc, beginning.unwrap_or(name))?;
@@ -57,11 +69,19 @@ pub fn asked_of(alloc: Global, spelled: &str) -> Result<Vec<QueryContext>, Fail>
     Ok(asked)
 }
 
-/// A query: its prefix, where `.` is the empty one, its number of rows and its contexts.
-pub fn query_of(alloc: Global, spelled: &str) -> Result<Query, Fail> {
-    let (prefix, rest) = spelled.split_once(' ').ok_or("no number of rows")?;
+// The prefix, the number of rows and the contexts of a query.
+fn query_parts(spelled: &str) -> Option<(&str, u32, &str)> {
+    let (prefix, rest) = spelled.split_once(' ')?;
     let (k, contexts) = rest.split_once(' ').unwrap_or((rest, ""));
     let prefix = if prefix == "." { "" } else { prefix };
+    Some((prefix, k.parse::<u32>().ok()?, contexts))
+}
+
+/// A query: its prefix, where `.` is the empty one, its number of rows and its contexts.
+pub fn query_of(alloc: Global, spelled: &str) -> Result<Query, Fail> {
+    let Some((prefix, k, contexts)) = query_parts(spelled) else {
+        return Err("no query".into());
+    };
     let asked = asked_of(alloc, contexts)?;
-    Ok(Query::new(key_of(alloc, prefix)?, asked, k.parse::<u32>()?)?)
+    Ok(Query::new(key_of(alloc, prefix)?, asked, k)?)
 }

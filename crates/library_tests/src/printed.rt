@@ -1,9 +1,10 @@
+use crate::table::assert_same;
 use sg_analysis::KeyError;
 use sg_base::ContextError;
 use sg_context::{BoostError, QueryError};
 use sg_edge::{Failed, PutError};
 use sg_paths::{DocumentError, SuggestionError};
-use std::alloc::Global;
+use std::alloc::AllocError;
 use std::fmt::Display;
 use std::test::Fail;
 
@@ -30,62 +31,64 @@ the sink failed
 out of memory
 ";
 
-fn print(out: &mut String, error: &impl Display, alloc: Global) -> Result<(), Fail> {
-    let line = format!(in alloc; "{error}\n")?;
-    out.push_str(line.as_str())?;
-    Ok(())
+fn print(out: &mut String, error: &impl Display) -> Result<(), AllocError> {
+    write!(out, "{error}\n")
 }
 
-fn of_contexts(alloc: Global, out: &mut String) -> Result<(), Fail> {
+fn of_contexts(out: &mut String) -> Result<(), AllocError> {
     let (byte, at) = (0x1d, 2);
-    print(out, &ContextError::Reserved { byte, at }, alloc)?;
-    print(out, &ContextError::TooLong { bytes: 64 }, alloc)?;
-    print(out, &ContextError::Memory, alloc)
+    print(out, &ContextError::Reserved { byte, at })?;
+    print(out, &ContextError::TooLong { bytes: 64 })?;
+    print(out, &ContextError::Memory)
 }
 
-fn of_keys(alloc: Global, out: &mut String) -> Result<(), Fail> {
+fn of_keys(out: &mut String) -> Result<(), AllocError> {
     let (byte, at) = (0x1f, 50);
-    print(out, &KeyError::Reserved { byte, at }, alloc)?;
-    print(out, &KeyError::Empty, alloc)?;
-    print(out, &KeyError::TooLong { bytes: 256 }, alloc)?;
-    print(out, &KeyError::Memory, alloc)
+    print(out, &KeyError::Reserved { byte, at })?;
+    print(out, &KeyError::Empty)?;
+    print(out, &KeyError::TooLong { bytes: 256 })?;
+    print(out, &KeyError::Memory)
 }
 
-fn of_queries(alloc: Global, out: &mut String) -> Result<(), Fail> {
-    print(out, &BoostError { boost: 0 }, alloc)?;
-    print(out, &QueryError::Contexts { count: 65 }, alloc)?;
-    print(out, &QueryError::K { k: 1_001 }, alloc)
+fn of_queries(out: &mut String) -> Result<(), AllocError> {
+    print(out, &BoostError { boost: 0 })?;
+    print(out, &QueryError::Contexts { count: 65 })?;
+    print(out, &QueryError::K { k: 1_001 })
 }
 
-fn of_suggestions(alloc: Global, out: &mut String) -> Result<(), Fail> {
-    print(out, &SuggestionError::TextLong { bytes: 1_025 }, alloc)?;
-    print(out, &SuggestionError::EmptyKey, alloc)?;
+fn of_suggestions(out: &mut String) -> Result<(), AllocError> {
+    print(out, &SuggestionError::TextLong { bytes: 1_025 })?;
+    print(out, &SuggestionError::EmptyKey)?;
     let weight = 2_147_483_648;
-    print(out, &SuggestionError::Weight { weight }, alloc)?;
-    print(out, &SuggestionError::Contexts { count: 17 }, alloc)
+    print(out, &SuggestionError::Weight { weight })?;
+    print(out, &SuggestionError::Contexts { count: 17 })
 }
 
-fn of_documents(alloc: Global, out: &mut String) -> Result<(), Fail> {
-    print(out, &DocumentError::Id { bytes: 256 }, alloc)?;
-    print(out, &DocumentError::NoSuggestion, alloc)?;
-    print(out, &DocumentError::TooMany { count: 17 }, alloc)
+fn of_documents(out: &mut String) -> Result<(), AllocError> {
+    print(out, &DocumentError::Id { bytes: 256 })?;
+    print(out, &DocumentError::NoSuggestion)?;
+    print(out, &DocumentError::TooMany { count: 17 })
 }
 
-fn of_ends(alloc: Global, out: &mut String) -> Result<(), Fail> {
-    print(out, &Failed, alloc)?;
-    print(out, &PutError::Failed, alloc)?;
-    print(out, &PutError::Memory, alloc)
+fn of_ends(out: &mut String) -> Result<(), AllocError> {
+    print(out, &Failed)?;
+    print(out, &PutError::Failed)?;
+    print(out, &PutError::Memory)
+}
+
+fn of_all(out: &mut String) -> Result<(), AllocError> {
+    of_contexts(out)?;
+    of_keys(out)?;
+    of_queries(out)?;
+    of_suggestions(out)?;
+    of_documents(out)?;
+    of_ends(out)
 }
 
 #[test]
 fn errors_have_a_line_each(rt: HostRuntime) -> Result<(), Fail> {
     let mut out = String::new(rt.alloc());
-    of_contexts(rt.alloc(), &mut out)?;
-    of_keys(rt.alloc(), &mut out)?;
-    of_queries(rt.alloc(), &mut out)?;
-    of_suggestions(rt.alloc(), &mut out)?;
-    of_documents(rt.alloc(), &mut out)?;
-    of_ends(rt.alloc(), &mut out)?;
-    assert_eq!(rt; out.as_str(), LINES);
+    of_all(&mut out)?;
+    assert_same(&rt, out.as_str(), LINES);
     Ok(())
 }
