@@ -3,9 +3,10 @@ ghost use Rattle.sg_base.specs.Ranking.{IsKept};
 ghost use Rattle.collector.specs.Hits.{rows_of};
 ghost use Rattle.search_tests.specs.Tables.{key_in};
 
-use collector::{Keys, Top};
+use crate::table::{assert_same, given};
+use collector::{Keys, Report, Top};
 use sg_base::{Bytes, Cut, Hit};
-use std::alloc::Global;
+use std::alloc::{AllocError, Global};
 use std::test::Fail;
 
 // The keys of documents, which have one suggestion each.
@@ -47,14 +48,6 @@ fn hit_of(score: u64, doc: u32) -> Hit
     }
 }
 
-fn shown(alloc: Global, hits: &[Hit]) -> Result<String, Fail> {
-    let mut text = String::new(alloc);
-    for hit in hits {
-        write!(text, "{}:{} ", hit.score, hit.doc)?;
-    }
-    Ok(text)
-}
-
 // A collector of two with the rows 9 `ab` of document 2 and 7 `abd` of document 1.
 fn two_rows(alloc: Global, names: &Names) -> Result<Top, Fail>
     requires { 2 < length names.now.keys.items }
@@ -81,42 +74,64 @@ fn cut_at(alloc: Global, score: u64, key: &str) -> Result<Cut, Fail> {
 // A row each: what it shows, the score and the key of a truncation point, and what it leaves of the
 // rows 9 `ab` and 7 `abd`.
 const CUTS: &str = "\
-a lesser score: 5 abd => 9:2 7:1 complete
-an equal score, a greater key: 7 abe => 9:2 7:1 complete
-an equal key doesn't precede: 7 abd => 9:2 cut
-an equal score, a lesser key: 7 ab => 9:2 cut
-between the scores: 8 abd => 9:2 cut
-before all: 10 abd => cut";
+a lesser score|5 abd|9:2 7:1 complete
+an equal score, a greater key|7 abe|9:2 7:1 complete
+an equal key doesn't precede|7 abd|9:2 cut
+an equal score, a lesser key|7 ab|9:2 cut
+between the scores|8 abd|9:2 cut
+before all|10 abd|cut
+";
+
+// The rows of a report, and whether it is complete.
+fn push_report(told: &mut String, report: &Report) -> Result<(), AllocError> {
+    for hit in report.hits.items() {
+        write!(told, "{}:{} ", hit.score, hit.doc)?;
+    }
+    told.push_str(match &report.cut {
+        Some(_) => "cut\n",
+        None => "complete\n",
+    })
+}
 
 // What a collector of these two rows gives back, closed by a truncation point.
-fn shown_close(alloc: Global, score: u64, key: &str) -> Result<String, Fail> {
-    let names = names_of(alloc, "abc abd ab")?;
+fn push_close(told: &mut String, score: u64, key: &str) -> Result<(), Fail> {
+    let names = names_of(*told.allocator(), "abc abd ab")?;
     if names.keys.len() != 3 {
         return Err("not three keys".into());
     }
-    let top = two_rows(alloc, &names)?;
-    let report = top.close(&names, Some(cut_at(alloc, score, key)?));
-    let mut told = shown(alloc, report.hits.items())?;
-    told.push_str(if report.cut.is_some() {
-        "cut"
-    } else {
-        "complete"
-    })?;
-    Ok(told)
+    let top = two_rows(*told.allocator(), &names)?;
+    let cut = cut_at(*told.allocator(), score, key)?;
+    push_report(told, &top.close(&names, Some(cut)))?;
+    Ok(())
 }
 
-fn shown_row(alloc: Global, asked: &str) -> Result<String, Fail> {
-    let (score, key) = asked.split_once(' ').ok_or("no key")?;
-    shown_close(alloc, score.parse::<u64>()?, key)
+fn point_in(given: &str) -> Option<(u64, &str)> {
+    let (score, key) = given.split_once(' ')?;
+    Some((score.parse::<u64>().ok()?, key))
+}
+
+fn push_row(told: &mut String, row: &str) -> Result<(), Fail> {
+    let Some((front, given)) = given(row) else {
+        return Err("no rows".into());
+    };
+    let Some((score, key)) = point_in(given) else {
+        return Err("no truncation point".into());
+    };
+    write!(told, "{front}|")?;
+    push_close(told, score, key)
+}
+
+fn rows_again(alloc: Global) -> Result<String, Fail> {
+    let mut told = String::new(alloc);
+    for row in CUTS.lines() {
+        push_row(&mut told, row)?;
+    }
+    Ok(told)
 }
 
 #[test]
 fn rows_that_precede_a_truncation_point_stay(rt: HostRuntime) -> Result<(), Fail> {
-    for line in CUTS.lines() {
-        let (name, rest) = line.split_once(": ").ok_or("no name")?;
-        let (asked, wanted) = rest.split_once(" => ").ok_or("no rows")?;
-        let told = shown_row(rt.alloc(), asked)?;
-        assert_eq!(rt; told.as_str(), wanted, "{name}");
-    }
+    let told = rows_again(rt.alloc())?;
+    assert_same(&rt, told.as_str(), CUTS);
     Ok(())
 }

@@ -1,7 +1,8 @@
 ghost use Rattle.std.specs.Prelude.{◌≡◌, ◌<◌, [], None, OnOk, MatchOption, length};
 
+use crate::table::{assert_same, given};
 use path_desk::{Desk, Entry};
-use sg_base::NodeId;
+use sg_base::{Cut, NodeId};
 use std::alloc::{AllocError, Global};
 use std::test::Fail;
 
@@ -29,29 +30,38 @@ fn taken(desk: &mut Desk) -> Option<Entry>
 }
 
 // The scores and starts of all entries, in the order in which they are taken.
-fn order_of(alloc: Global, desk: &mut Desk) -> Result<String, AllocError>
+fn push_order(told: &mut String, desk: &mut Desk) -> Result<(), AllocError>
     requires { desk.old.followed ≡ None }
     ensures { OnOk result (desk.new.waiting ≡ []) }
 {
-    let mut order = String::new(alloc);
     while let Some(entry) = taken(desk) {
         let Entry { score, start, .. } = entry;
-        write!(order, " {score}.{start}")?;
+        write!(told, " {score}.{start}")?;
     }
-    Ok(order)
+    Ok(())
 }
 
-fn shown_cut(alloc: Global, desk: &mut Desk) -> Result<String, Fail>
+fn push_point(told: &mut String, cut: &Cut) -> Result<(), Fail> {
+    let key = str::from_utf8(cut.key.as_slice())?;
+    let (score, generation, room) = (cut.score, cut.generation, cut.room);
+    write!(told, "{score} {key} of segment {generation} with {room}")?;
+    Ok(())
+}
+
+fn push_cut(told: &mut String, desk: &mut Desk) -> Result<(), Fail>
     requires { desk.old.waiting ≡ [] }
 {
     match desk.cut(7)? {
-        None => Ok(String::from_str(alloc, "none")?),
-        Some(cut) => {
-            let key = str::from_utf8(cut.key.as_slice())?;
-            let (score, generation, room) = (cut.score, cut.generation, cut.room);
-            Ok(format!(in alloc; "{score} {key} of segment {generation} with {room}")?)
-        }
+        None => Ok(told.push_str("none")?),
+        Some(cut) => push_point(told, &cut),
     }
+}
+
+// The score, the number and the key bytes of a start.
+fn start_parts(word: &str) -> Option<(u64, u32, &str)> {
+    let (score, rest) = word.split_once('.')?;
+    let (start, key) = rest.split_once('.')?;
+    Some((score.parse::<u64>().ok()?, start.parse::<u32>().ok()?, key))
 }
 
 fn put_starts(desk: &mut Desk, spelled: &str) -> Result<(), Fail>
@@ -59,45 +69,63 @@ fn put_starts(desk: &mut Desk, spelled: &str) -> Result<(), Fail>
     ensures { OnOk result (desk.new.followed ≡ None) }
 {
     for word in spelled.split_whitespace() {
-        let mut fields = word.split('.');
-        let score = fields.next().ok_or("no score")?.parse::<u64>()?;
-        let start = fields.next().ok_or("no start")?.parse::<u32>()?;
-        let key = fields.next().ok_or("no key")?;
+        let Some((score, start, key)) = start_parts(word) else {
+            return Err("no start".into());
+        };
         desk.put_start(entry_of(score, start), key.as_bytes())?;
     }
     Ok(())
 }
 
 // What becomes of starts in a queue: the order in which they are taken, and the truncation point.
-fn shown_run(alloc: Global, room: u32, starts: &str) -> Result<String, Fail> {
-    let mut desk = Desk::new(alloc);
+fn push_run(told: &mut String, room: u32, starts: &str) -> Result<(), Fail> {
+    let mut desk = Desk::new(*told.allocator());
     desk.begin(room);
     put_starts(&mut desk, starts)?;
-    let order = order_of(alloc, &mut desk)?;
-    let cut = shown_cut(alloc, &mut desk)?;
-    Ok(format!(in alloc; "{order}; {cut}")?)
+    push_order(told, &mut desk)?;
+    told.push_str("; ")?;
+    push_cut(told, &mut desk)
 }
 
-fn shown_row(alloc: Global, asked: &str) -> Result<String, Fail> {
-    let (room, starts) = asked.split_once('|').ok_or("no room")?;
-    shown_run(alloc, room.parse::<u32>()?, starts)
+fn run_parts(given: &str) -> Option<(u32, &str)> {
+    let (room, starts) = given.split_once('|')?;
+    Some((room.parse::<u32>().ok()?, starts))
 }
 
-// A row each: the room, the starts that are put in with score, number and key bytes, the order in
-// which they are taken, and the truncation point.
+fn push_row(told: &mut String, row: &str) -> Result<(), Fail> {
+    let Some((front, given)) = given(row) else {
+        return Err("no answer".into());
+    };
+    let Some((room, starts)) = run_parts(given) else {
+        return Err("no room".into());
+    };
+    write!(told, "{front}|")?;
+    push_run(told, room, starts)?;
+    told.push_str("\n")?;
+    Ok(())
+}
+
+// A row each: what it shows, the room, the starts that are put in with score, number and key bytes,
+// the order in which they are taken, and the truncation point.
 const STARTS: &str = "\
-4|5.1.ab 7.2.b 5.0.ab 5.3.aa => 7.2 5.3 5.0 5.1; none
-2|5.1.ab 5.0.ab => 5.0 5.1; none
-1|5.1.ab 5.0.ab => 5.0; 5 ab of segment 7 with 1
-2|3.0.c 1.0.a 2.0.b 4.0.d => 4.0 3.0; 2 b of segment 7 with 2
-0|3.0.c 4.0.d =>; 4 d of segment 7 with 0";
+scores, then keys, then starts|4|5.1.ab 7.2.b 5.0.ab 5.3.aa| 7.2 5.3 5.0 5.1; none
+as many as there is room for|2|5.1.ab 5.0.ab| 5.0 5.1; none
+one of equal ones is dropped|1|5.1.ab 5.0.ab| 5.0; 5 ab of segment 7 with 1
+the first of those that are dropped|2|3.0.c 1.0.a 2.0.b 4.0.d| 4.0 3.0; 2 b of segment 7 with 2
+no room|0|3.0.c 4.0.d|; 4 d of segment 7 with 0
+";
+
+fn rows_again(alloc: Global) -> Result<String, Fail> {
+    let mut told = String::new(alloc);
+    for row in STARTS.lines() {
+        push_row(&mut told, row)?;
+    }
+    Ok(told)
+}
 
 #[test]
 fn starts_are_taken_in_order(rt: HostRuntime) -> Result<(), Fail> {
-    for line in STARTS.lines() {
-        let (asked, wanted) = line.split_once(" =>").ok_or("no answer")?;
-        let shown = shown_row(rt.alloc(), asked)?;
-        assert_eq!(rt; shown.as_str(), wanted, "{line}");
-    }
+    let told = rows_again(rt.alloc())?;
+    assert_same(&rt, told.as_str(), STARTS);
     Ok(())
 }

@@ -3,6 +3,7 @@ ghost use Rattle.std.specs.Prelude.{◌≡◌, ◌<◌, length};
 use crate::making::{documents_of, live_of, query_of, segment_of};
 use crate::reports::{shown_hits, shown_ranks};
 use crate::searches::searched;
+use crate::table::assert_same;
 use path_desk::SegReport;
 use seg_live::Live;
 use segment::Segment;
@@ -94,34 +95,66 @@ fn push_document(
     Ok(())
 }
 
-fn query_text(alloc: Global, numbers: &mut Numbers) -> Result<String, Fail> {
+fn push_query(numbers: &mut Numbers, query: &mut String) -> Result<(), Fail> {
     let prefix = numbers.part(PREFIXES, 4)?;
     let at_most = 1 + numbers.below(20);
     let k = 1 + numbers.below(at_most);
     let asked = numbers.part(ASKED, 8)?;
-    let mut query = String::new(alloc);
     write!(query, "{prefix} {k}{asked}")?;
-    Ok(query)
+    Ok(())
 }
 
-fn case_of(alloc: Global, numbers: &mut Numbers) -> Result<Case, Fail> {
-    let mut documents = String::new(alloc);
-    let mut dead = String::new(alloc);
+// The document at a place, with at most so many suggestions; of four, so many are deleted.
+fn push_place(
+    numbers: &mut Numbers,
+    case: &mut Case,
+    place: u32,
+    most: u32,
+    deleted: u32,
+) -> Result<(), Fail>
+    requires { 0 < most }
+{
+    let is_dead = numbers.below(4) < deleted;
+    if is_dead {
+        write!(case.dead, "{place} ")?;
+    }
+    push_document(numbers, &mut case.documents, most, is_dead)
+}
+
+fn push_documents(numbers: &mut Numbers, case: &mut Case) -> Result<(), Fail> {
     let deleted = numbers.below(4);
     let most = 1 + numbers.below(2);
     for place in 0..1 + numbers.below(20) {
-        let is_dead = numbers.below(4) < deleted;
-        if is_dead {
-            write!(dead, "{place} ")?;
-        }
-        push_document(numbers, &mut documents, most, is_dead)?;
+        push_place(numbers, case, place, most, deleted)?;
     }
-    let query = query_text(alloc, numbers)?;
-    Ok(Case {
-        documents,
-        dead,
-        query,
-    })
+    Ok(())
+}
+
+fn case_of(alloc: Global, numbers: &mut Numbers) -> Result<Case, Fail> {
+    let mut case = Case {
+        documents: String::new(alloc),
+        dead: String::new(alloc),
+        query: String::new(alloc),
+    };
+    push_documents(numbers, &mut case)?;
+    push_query(numbers, &mut case.query)?;
+    Ok(case)
+}
+
+// Lends the document at a place.
+fn push_lent<'d>(
+    lent: &mut Vec<NumberedRef<'d>>,
+    docs: &'d [Numbered],
+    doc: u32,
+) -> Result<(), Fail> {
+    let Some(numbered) = docs.get(doc as usize) else {
+        return Err("no document".into());
+    };
+    lent.push(NumberedRef {
+        seq: numbered.seq,
+        document: &numbered.document,
+    })?;
+    Ok(())
 }
 
 // The first rows of the live documents of a segment, by a look at each of them.
@@ -137,11 +170,7 @@ fn plain_rows(
     let mut documents = Vec::new(alloc);
     for doc in 0..segment.table().len() {
         if live.is_live(doc) {
-            let numbered = docs.get(doc as usize).ok_or("no document")?;
-            documents.push(NumberedRef {
-                seq: numbered.seq,
-                document: &numbered.document,
-            })?;
+            push_lent(&mut documents, docs, doc)?;
         }
     }
     Ok(first_rows(alloc, query, documents.as_slice())?)
@@ -151,7 +180,25 @@ fn precedes(row: &Rank, cut: &Cut) -> bool {
     row.score > cut.score || row.score == cut.score && row.key.as_slice() < cut.key.as_slice()
 }
 
-// Whether a report with these rows is truncated; it is compared with what the documents give.
+// What the documents give: all of it, or what precedes the truncation point.
+fn plain_answer(
+    alloc: Global,
+    query: &Query,
+    segment: &Segment,
+    docs: &[Numbered],
+    live: &Live,
+    cut: &Option<Cut>,
+) -> Result<String, Fail>
+    requires { length live.now ≡ length segment.now }
+{
+    let mut rows = plain_rows(alloc, query, segment, docs, live)?;
+    if let Some(cut) = cut {
+        rows.retain(|row| precedes(row, cut));
+    }
+    shown_ranks(alloc, rows.as_slice())
+}
+
+// Whether a report is truncated; its rows are compared with what the documents give.
 fn is_truncated(
     rt: &impl Abort,
     alloc: Global,
@@ -163,37 +210,54 @@ fn is_truncated(
     requires { length live.now ≡ length segment.now }
 {
     let docs = documents_of(alloc, segment)?;
-    let mut wanted = plain_rows(alloc, query, segment, docs.as_slice(), live)?;
-    if let Some(cut) = &report.cut {
-        wanted.retain(|row| precedes(row, cut));
-    }
     let told = shown_hits(alloc, docs.as_slice(), report.hits.items())?;
-    let wanted = shown_ranks(alloc, wanted.as_slice())?;
-    assert_eq!(rt; told.as_str(), wanted.as_str());
+    let wanted = plain_answer(alloc, query, segment, docs.as_slice(), live, &report.cut)?;
+    assert_same(rt, told.as_str(), wanted.as_str());
     Ok(report.cut.is_some())
 }
 
-fn is_case_truncated(rt: &impl Abort, alloc: Global, case: &Case) -> Result<Option<bool>, Fail> {
+// The same of a search, where a document is live.
+fn is_search_truncated(
+    rt: &impl Abort,
+    alloc: Global,
+    query: &Query,
+    segment: &Segment,
+    dead: &str,
+) -> Result<bool, Fail> {
+    let live = live_of(alloc, segment.table().len(), dead)?;
+    if live.count() == 0 {
+        return Ok(false);
+    }
+    let report = searched(alloc, segment, &live, query)?;
+    is_truncated(rt, alloc, query, segment, &live, &report)
+}
+
+fn is_case_truncated(rt: &impl Abort, alloc: Global, case: &Case) -> Result<bool, Fail> {
     let query = query_of(alloc, case.query.as_str())?;
     let segment = segment_of(alloc, case.documents.as_str())?;
-    let live = live_of(alloc, segment.table().len(), case.dead.as_str())?;
-    if live.count() == 0 {
-        return Ok(None);
+    is_search_truncated(rt, alloc, &query, &segment, case.dead.as_str())
+}
+
+fn is_next_truncated(rt: &impl Abort, alloc: Global, numbers: &mut Numbers) -> Result<bool, Fail> {
+    let case = case_of(alloc, numbers)?;
+    is_case_truncated(rt, alloc, &case)
+}
+
+// How many of so many cases are truncated.
+fn count_truncated(rt: &impl Abort, alloc: Global, cases: u32) -> Result<u32, Fail> {
+    let mut numbers = Numbers { state: 1 };
+    let mut truncated: u32 = 0;
+    for _ in 0..cases {
+        if is_next_truncated(rt, alloc, &mut numbers)? {
+            truncated = truncated.saturating_add(1);
+        }
     }
-    let report = searched(alloc, &segment, &live, &query)?;
-    Ok(Some(is_truncated(rt, alloc, &query, &segment, &live, &report)?))
+    Ok(truncated)
 }
 
 #[test]
 fn reports_are_what_documents_give(rt: HostRuntime) -> Result<(), Fail> {
-    let mut numbers = Numbers { state: 1 };
-    let mut truncated: u32 = 0;
-    for _ in 0..200 {
-        let case = case_of(rt.alloc(), &mut numbers)?;
-        if is_case_truncated(&rt, rt.alloc(), &case)? == Some(true) {
-            truncated = truncated.saturating_add(1);
-        }
-    }
-    assert!(rt; truncated >= 10, "{truncated} of 200 are truncated");
+    let truncated = count_truncated(&rt, rt.alloc(), 200)?;
+    assert!(rt; truncated >= 10);
     Ok(())
 }

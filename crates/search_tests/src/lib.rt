@@ -15,4 +15,6 @@ mod reports;
 #[cfg(test)]
 mod searches;
 #[cfg(test)]
+mod table;
+#[cfg(test)]
 mod views;

@@ -14,23 +14,33 @@ fn key_of(alloc: Global, spelled: &str) -> Result<Key, Fail> {
     Ok(Key::of(Bytes::of(alloc, spelled.as_bytes())?)?)
 }
 
-fn contexts_of(alloc: Global, spelled: &str) -> Result<Vec<Context>, Fail> {
+fn contexts_of(alloc: Global, spelled: Option<&str>) -> Result<Vec<Context>, Fail> {
     let mut contexts = Vec::new(alloc);
-    for name in spelled.split(',') {
-        contexts.push(Context::new(alloc, name)?)?;
+    if let Some(spelled) = spelled {
+        for name in spelled.split(',') {
+            contexts.push(Context::new(alloc, name)?)?;
+        }
     }
     Ok(contexts)
 }
 
+// The key, the weight and the contexts of a suggestion.
+fn suggestion_parts(spelled: &str) -> Option<(&str, u32, Option<&str>)> {
+    let (key, rest) = spelled.split_once(':')?;
+    let (weight, contexts) = match rest.split_once('@') {
+        Some((weight, contexts)) => (weight, Some(contexts)),
+        None => (rest, None),
+    };
+    Some((key, weight.parse::<u32>().ok()?, contexts))
+}
+
 // A suggestion: its key, `:`, its weight and, behind `@`, its contexts.
 fn suggestion_of(alloc: Global, spelled: &str) -> Result<Suggestion, Fail> {
-    let (key, rest) = spelled.split_once(':').ok_or("no weight")?;
-    let (weight, contexts) = match rest.split_once('@') {
-        Some((weight, contexts)) => (weight, contexts_of(alloc, contexts)?),
-        None => (rest, Vec::new(alloc)),
+    let Some((key, weight, contexts)) = suggestion_parts(spelled) else {
+        return Err("no suggestion".into());
     };
+    let contexts = contexts_of(alloc, contexts)?;
     let text = Text::of(alloc, key)?;
-    let weight = weight.parse::<u32>()?;
     Ok(Suggestion::new(text, key_of(alloc, key)?, weight, contexts)?)
 }
 
@@ -117,12 +127,13 @@ pub fn live_of(alloc: Global, count: u32, spelled: &str) -> Result<Live, Fail>
 }
 
 fn query_context_of(alloc: Global, spelled: &str) -> Result<QueryContext, Fail> {
-    let (name, boost) = spelled.split_once('=').ok_or("no boost")?;
+    let Some((name, boost)) = spelled.split_once('=') else {
+        return Err("no boost".into());
+    };
     let boost = boost.parse::<u32>()?;
-    Ok(match name.strip_suffix('*') {
-        Some(beginning) => QueryContext::new(Context::new(alloc, beginning)?, boost, true)?,
-        None => QueryContext::new(Context::new(alloc, name)?, boost, false)?,
-    })
+    let beginning = name.strip_suffix('*');
+    let context = Context::new(alloc, beginning.unwrap_or(name))?;
+    Ok(QueryContext::new(context, boost, beginning.is_some())?)
 }
 
 // Query contexts with blanks between them: `x=2` has the boost 2, and `x*=2` matches what begins
@@ -135,14 +146,19 @@ fn asked_of(alloc: Global, spelled: &str) -> Result<Vec<QueryContext>, Fail> {
     Ok(asked)
 }
 
+// The prefix, the number of rows and the contexts of a query.
+fn query_parts(spelled: &str) -> Option<(&str, u32, &str)> {
+    let (prefix, rest) = spelled.split_once(' ')?;
+    let (k, contexts) = rest.split_once(' ').unwrap_or((rest, ""));
+    let prefix = if prefix == "." { "" } else { prefix };
+    Some((prefix, k.parse::<u32>().ok()?, contexts))
+}
+
 /// A query: its prefix, where `.` is the empty one, its number of rows and its contexts.
 pub fn query_of(alloc: Global, spelled: &str) -> Result<Query, Fail> {
-    let (prefix, rest) = spelled.split_once(' ').ok_or("no number of rows")?;
-    let (k, contexts) = match rest.split_once(' ') {
-        Some((k, contexts)) => (k, contexts),
-        None => (rest, ""),
+    let Some((prefix, k, contexts)) = query_parts(spelled) else {
+        return Err("no query".into());
     };
-    let prefix = if prefix == "." { "" } else { prefix };
     let asked = asked_of(alloc, contexts)?;
-    Ok(Query::new(key_of(alloc, prefix)?, asked, k.parse::<u32>()?)?)
+    Ok(Query::new(key_of(alloc, prefix)?, asked, k)?)
 }

@@ -6,12 +6,12 @@ use sg_paths::Numbered;
 use std::alloc::Global;
 use std::test::Fail;
 
-fn key_of_hit<'d>(docs: &'d [Numbered], hit: &Hit) -> Result<&'d Key, Fail> {
-    let numbered = docs.get(hit.doc as usize).ok_or("no document")?;
+fn key_of_hit<'d>(docs: &'d [Numbered], hit: &Hit) -> Option<&'d Key> {
+    let numbered = docs.get(hit.doc as usize)?;
     let document = &numbered.document;
     let suggestions = document.suggestions.items();
-    let suggestion = suggestions.get(hit.place as usize).ok_or("no suggestion")?;
-    Ok(&suggestion.key)
+    let suggestion = suggestions.get(hit.place as usize)?;
+    Some(&suggestion.key)
 }
 
 /// A row behind those that are told.
@@ -22,20 +22,24 @@ pub fn push_row(
     seq: u64,
     place: u8,
 ) -> Result<(), Fail> {
-    if !told.is_empty() {
-        told.push_str(", ")?;
-    }
+    let between = if told.is_empty() { "" } else { ", " };
     let key = str::from_utf8(key)?;
-    write!(told, "{score} {key} {seq}/{place}")?;
+    write!(told, "{between}{score} {key} {seq}/{place}")?;
     Ok(())
+}
+
+fn push_hit(told: &mut String, docs: &[Numbered], hit: &Hit) -> Result<(), Fail> {
+    let Some(key) = key_of_hit(docs, hit) else {
+        return Err("no suggestion".into());
+    };
+    push_row(told, key.as_slice(), hit.score, hit.seq, hit.place)
 }
 
 /// The rows of hits: score, key, number and place.
 pub fn shown_hits(alloc: Global, docs: &[Numbered], hits: &[Hit]) -> Result<String, Fail> {
     let mut told = String::new(alloc);
     for hit in hits {
-        let key = key_of_hit(docs, hit)?;
-        push_row(&mut told, key.as_slice(), hit.score, hit.seq, hit.place)?;
+        push_hit(&mut told, docs, hit)?;
     }
     Ok(told)
 }
@@ -57,12 +61,13 @@ pub fn shown_ranks(alloc: Global, ranks: &[Rank]) -> Result<String, Fail> {
 
 /// A truncation point behind the rows.
 pub fn push_cut(told: &mut String, cut: &Cut) -> Result<(), Fail> {
-    if !told.is_empty() {
-        told.push_str(", ")?;
-    }
+    let between = if told.is_empty() { "" } else { ", " };
     let key = str::from_utf8(cut.key.as_slice())?;
     let (score, generation, room) = (cut.score, cut.generation, cut.room);
-    write!(told, "cut at {score} {key} of {generation}, {room} queued")?;
+    write!(
+        told,
+        "{between}cut at {score} {key} of {generation}, {room} queued"
+    )?;
     Ok(())
 }
 
