@@ -9,4 +9,6 @@ mod segment_bytes;
 #[cfg(test)]
 mod segments;
 #[cfg(test)]
+mod table;
+#[cfg(test)]
 mod tables;

@@ -15,20 +15,35 @@ fn contexts_of(alloc: Global, spelled: Option<&str>) -> Result<Vec<Context>, Fai
     Ok(contexts)
 }
 
+// The key, the weight and the contexts of a suggestion.
+fn suggestion_parts(spelled: &str) -> Option<(&str, u32, Option<&str>)> {
+    let (key, rest) = spelled.split_once(':')?;
+    let (weight, contexts) = match rest.split_once('@') {
+        Some((weight, contexts)) => (weight, Some(contexts)),
+        None => (rest, None),
+    };
+    Some((key, weight.parse::<u32>().ok()?, contexts))
+}
+
+fn key_of(alloc: Global, spelled: &str) -> Result<Key, Fail> {
+    Ok(Key::of(Bytes::of(alloc, spelled.as_bytes())?)?)
+}
+
 /// A suggestion: its key, `:`, its weight and, behind `@`, its contexts.
 fn suggestion_of(alloc: Global, spelled: &str) -> Result<Suggestion, Fail> {
-    let (key, rest) = spelled.split_once(':').ok_or("no weight")?;
-    let mut parts = rest.split('@');
-    let weight = parts.next().ok_or("no weight")?.parse::<u32>()?;
-    let contexts = contexts_of(alloc, parts.next())?;
+    let Some((key, weight, contexts)) = suggestion_parts(spelled) else {
+        return Err("no suggestion".into());
+    };
+    let contexts = contexts_of(alloc, contexts)?;
     let text = Text::of(alloc, key)?;
-    let key = Key::of(Bytes::of(alloc, key.as_bytes())?)?;
-    Ok(Suggestion::new(text, key, weight, contexts)?)
+    Ok(Suggestion::new(text, key_of(alloc, key)?, weight, contexts)?)
 }
 
 /// A document: its id, and its suggestions with blanks between them.
 pub fn document_of(alloc: Global, spelled: &str) -> Result<Document, Fail> {
-    let (id, rest) = spelled.trim().split_once(' ').ok_or("no suggestion")?;
+    let Some((id, rest)) = spelled.trim().split_once(' ') else {
+        return Err("no suggestion".into());
+    };
     let mut suggestions = Vec::new(alloc);
     for word in rest.split_whitespace() {
         suggestions.push(suggestion_of(alloc, word)?)?;

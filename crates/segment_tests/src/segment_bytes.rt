@@ -1,11 +1,12 @@
 ghost use Rattle.std.specs.Prelude.{◌<◌, length};
 
 use crate::making::bytes_of;
+use crate::table::assert_same;
 use fst_code::CodeError;
 use segment::Segment;
 use sg_base::{Bytes, Key, Text};
 use sg_paths::{Document, MOST_SEGMENT_PATHS, Numbered, Suggestion, paths_at_most};
-use std::alloc::Global;
+use std::alloc::{AllocError, Global};
 use std::test::Fail;
 
 // Number 1, the id "a", the text "B" with the key "b", weight 1, no context.
@@ -112,68 +113,89 @@ const CUTS: &str = "\
 41: 6@=
 ";
 
-fn answer(alloc: Global, bytes: &[u8], offset: usize) -> Result<String, Fail> {
+fn push_answer(told: &mut String, bytes: &[u8], offset: usize) -> Result<(), AllocError> {
+    let bytes = Bytes::of(*told.allocator(), bytes)?;
+    match Segment::check(*told.allocator(), bytes) {
+        Ok(_) => told.push_str(" ok"),
+        Err(CodeError::Bad { rule, at }) if at == offset as u64 => write!(told, " {rule}@="),
+        Err(CodeError::Bad { rule, at }) => write!(told, " {rule}@{at}"),
+        Err(CodeError::Memory) => told.push_str(" no memory"),
+    }
+}
+
+fn push_damage(told: &mut String, bytes: &[u8], offset: usize, value: u8) -> Result<(), AllocError>
+    requires { offset < length bytes.now }
+{
+    let mut other = Vec::from_slice(*told.allocator(), bytes)?;
+    other[offset] = value;
+    push_answer(told, other.as_slice(), offset)
+}
+
+fn damages_at(alloc: Global, bytes: &[u8], offset: usize) -> Result<String, AllocError>
+    requires { offset < length bytes.now }
+{
     let mut told = String::new(alloc);
-    match Segment::check(alloc, Bytes::of(alloc, bytes)?) {
-        Ok(_) => told.push_str("ok")?,
-        Err(CodeError::Bad { rule, at }) if at == offset as u64 => write!(told, "{rule}@=")?,
-        Err(CodeError::Bad { rule, at }) => write!(told, "{rule}@{at}")?,
-        Err(CodeError::Memory) => return Err("no memory".into()),
+    for value in [0, 255, bytes[offset].wrapping_add(1)] {
+        push_damage(&mut told, bytes, offset, value)?;
     }
     Ok(told)
 }
 
-fn damaged(alloc: Global, bytes: &[u8], offset: usize, value: u8) -> Result<String, Fail>
-    requires { offset < length bytes.now }
+fn answer_to_front(alloc: Global, bytes: &[u8], count: usize) -> Result<String, AllocError>
+    requires { count < length bytes.now }
 {
-    let mut other = Vec::from_slice(alloc, bytes)?;
-    other[offset] = value;
-    answer(alloc, other.as_slice(), offset)
-}
-
-fn damages_at(alloc: Global, bytes: &[u8], offset: usize) -> Result<String, Fail>
-    requires { offset < length bytes.now }
-{
-    let mut told = damaged(alloc, bytes, offset, 0)?;
-    for value in [255, bytes[offset].wrapping_add(1)] {
-        let answer = damaged(alloc, bytes, offset, value)?;
-        write!(told, " {answer}")?;
-    }
+    let mut told = String::new(alloc);
+    push_answer(&mut told, &bytes[..count], count)?;
     Ok(told)
 }
 
 // A line where the answer is another than the last one.
-fn push_change(told: &mut String, last: &mut String, at: usize, row: String) -> Result<(), Fail> {
+fn push_change(
+    told: &mut String,
+    last: &mut String,
+    at: usize,
+    row: String,
+) -> Result<(), AllocError> {
     if row.as_str() != last.as_str() {
-        write!(told, "{at}: {row}\n")?;
+        write!(told, "{at}:{row}\n")?;
         *last = row;
     }
     Ok(())
 }
 
-#[test]
-fn each_damage_names_its_rule(rt: HostRuntime) -> Result<(), Fail> {
-    let bytes = bytes_of(rt.alloc(), EXAMPLE)?;
-    let mut told = String::new(rt.alloc());
-    let mut last = String::new(rt.alloc());
+fn damages_of(alloc: Global, text: &str) -> Result<String, AllocError> {
+    let bytes = bytes_of(alloc, text)?;
+    let mut told = String::new(alloc);
+    let mut last = String::new(alloc);
     for offset in 0..bytes.len() {
-        let row = damages_at(rt.alloc(), bytes.as_slice(), offset)?;
+        let row = damages_at(alloc, bytes.as_slice(), offset)?;
         push_change(&mut told, &mut last, offset, row)?;
     }
-    assert_eq!(rt; told.as_str(), DAMAGES);
+    Ok(told)
+}
+
+#[test]
+fn each_damage_names_its_rule(rt: HostRuntime) -> Result<(), Fail> {
+    let told = damages_of(rt.alloc(), EXAMPLE)?;
+    assert_same(&rt, told.as_str(), DAMAGES);
     Ok(())
+}
+
+fn cuts_of(alloc: Global, text: &str) -> Result<String, AllocError> {
+    let bytes = bytes_of(alloc, text)?;
+    let mut told = String::new(alloc);
+    let mut last = String::new(alloc);
+    for count in 0..bytes.len() {
+        let row = answer_to_front(alloc, bytes.as_slice(), count)?;
+        push_change(&mut told, &mut last, count, row)?;
+    }
+    Ok(told)
 }
 
 #[test]
 fn each_cut_names_its_rule(rt: HostRuntime) -> Result<(), Fail> {
-    let bytes = bytes_of(rt.alloc(), EXAMPLE)?;
-    let mut told = String::new(rt.alloc());
-    let mut last = String::new(rt.alloc());
-    for count in 0..bytes.len() {
-        let row = answer(rt.alloc(), &bytes[..count], count)?;
-        push_change(&mut told, &mut last, count, row)?;
-    }
-    assert_eq!(rt; told.as_str(), CUTS);
+    let told = cuts_of(rt.alloc(), EXAMPLE)?;
+    assert_same(&rt, told.as_str(), CUTS);
     Ok(())
 }
 
@@ -197,10 +219,15 @@ fn example_segment(alloc: Global) -> Result<Segment, Fail> {
     Ok(Segment::of_docs(alloc, docs)?)
 }
 
+fn written_example(alloc: Global) -> Result<Bytes, Fail> {
+    let segment = example_segment(alloc)?;
+    Ok(segment.write()?)
+}
+
 #[test]
 fn one_document_has_189_bytes(rt: HostRuntime) -> Result<(), Fail> {
     let bytes = bytes_of(rt.alloc(), EXAMPLE)?;
-    let written = example_segment(rt.alloc())?.write()?;
-    assert_eq!(rt; written.as_slice(), bytes.as_slice());
+    let written = written_example(rt.alloc())?;
+    assert!(rt; written.as_slice() == bytes.as_slice());
     Ok(())
 }

@@ -1,31 +1,39 @@
 use crate::making::document_of;
+use crate::table::{assert_same, given};
 use fst_walk::{Start, Starts};
 use seg_table::{Owner, SegTable};
 use segment::Segment;
 use sg_base::{Bytes, Key, List, Plain, Steps, Text};
 use sg_context::Query;
 use sg_paths::{Batch, Op};
-use std::alloc::Global;
+use std::alloc::{AllocError, Global};
 use std::test::Fail;
 
 // A row each: its name, operations (`+` adds, `~` updates, `-` deletes), the prefix of a query; the
 // numbers of the documents, the owners by ordinal, the most paths of a document, and the first
 // three starts as number, ordinal, boost and cost.
 const ROWS: &str = "\
-two documents: +d1 abz:5@a zzz:1@a; +d2 abc:5@b / ab => 1 2 | 0.0 0.1 1.0 | 2 | 0:0*1=2147483642 1:2*1=2147483642 none
-updates and deletes: ~d1 abz:5@a zzz:1@a; -d1; ~d2 abc:5@b / ab => 1 3 | 0.0 0.1 1.0 | 2 | 0:0*1=2147483642 1:2*1=2147483642 none
-one id, key and weight: +d k:5; ~d k:5; +d k:5 / k => 1 2 3 | 0.0 1.0 2.0 | 1 | 0:0*1=2147483642 none none
-deletes alone: -d; -e / a => | | 0 | none none none";
+two documents|+d1 abz:5@a zzz:1@a; +d2 abc:5@b|ab\
+    |1 2 / 0.0 0.1 1.0 / 2 / 0:0*1=2147483642 1:2*1=2147483642 none
+updates and deletes|~d1 abz:5@a zzz:1@a; -d1; ~d2 abc:5@b|ab\
+    |1 3 / 0.0 0.1 1.0 / 2 / 0:0*1=2147483642 1:2*1=2147483642 none
+one id, key and weight|+d k:5; ~d k:5; +d k:5|k|1 2 3 / 0.0 1.0 2.0 / 1 / 0:0*1=2147483642 none none
+deletes alone|-d; -e|a|/ / 0 / none none none
+";
 
 fn op_of(alloc: Global, spelled: &str) -> Result<Op, Fail> {
-    if let Some(rest) = spelled.strip_prefix("+") {
-        return Ok(Op::Add(document_of(alloc, rest)?));
+    let Some((kind, rest)) = spelled.split_at_checked(1) else {
+        return Err("no operation".into());
+    };
+    if kind == "-" {
+        return Ok(Op::Delete(Text::of(alloc, rest)?));
     }
-    if let Some(rest) = spelled.strip_prefix("~") {
-        return Ok(Op::Update(document_of(alloc, rest)?));
-    }
-    let id = spelled.strip_prefix("-").ok_or("no operation")?;
-    Ok(Op::Delete(Text::of(alloc, id)?))
+    let document = document_of(alloc, rest)?;
+    Ok(if kind == "+" {
+        Op::Add(document)
+    } else {
+        Op::Update(document)
+    })
 }
 
 fn ops_of(alloc: Global, spelled: &str) -> Result<Vec<Op>, Fail> {
@@ -50,33 +58,31 @@ fn segment_of(alloc: Global, spelled: &str) -> Result<Segment, Fail> {
     Ok(Segment::of_batch(alloc, &batch)?)
 }
 
-fn push_numbers(told: &mut String, table: &SegTable) -> Result<(), Fail> {
+fn push_numbers(told: &mut String, table: &SegTable) -> Result<(), AllocError> {
     for doc in 0..table.len() {
         write!(told, "{} ", table.seq(doc))?;
     }
     Ok(())
 }
 
-fn push_owners(told: &mut String, owners: &[Owner]) -> Result<(), Fail> {
-    told.push_str("|")?;
+fn push_owners(told: &mut String, owners: &[Owner]) -> Result<(), AllocError> {
+    told.push_str("/")?;
     for owner in owners {
         write!(told, " {}.{}", owner.doc, owner.place)?;
     }
     Ok(())
 }
 
-fn push_start(told: &mut String, start: Option<Start>) -> Result<(), Fail> {
+fn push_start(told: &mut String, start: Option<Start>) -> Result<(), AllocError> {
     let Some(start) = start else {
-        told.push_str(" none")?;
-        return Ok(());
+        return told.push_str(" none");
     };
     let spot = start.spot;
     write!(
         told,
         " {}:{}*{}={}",
         start.number, spot.ordinal, start.boost, spot.cost
-    )?;
-    Ok(())
+    )
 }
 
 fn query_of(alloc: Global, prefix: &str) -> Result<Query, Fail> {
@@ -84,7 +90,7 @@ fn query_of(alloc: Global, prefix: &str) -> Result<Query, Fail> {
     Ok(Query::new(prefix, Vec::new(alloc), 1)?)
 }
 
-fn push_starts(told: &mut String, segment: &Segment, query: &Query) -> Result<(), Fail> {
+fn push_starts(told: &mut String, segment: &Segment, query: &Query) -> Result<(), AllocError> {
     let mut steps = Steps::new(Plain);
     let mut starts = Starts::new(segment.transducer(), query);
     for _ in 0..3 {
@@ -93,26 +99,45 @@ fn push_starts(told: &mut String, segment: &Segment, query: &Query) -> Result<()
     Ok(())
 }
 
-fn shown(alloc: Global, ops: &str, prefix: &str) -> Result<String, Fail> {
-    let segment = segment_of(alloc, ops)?;
-    let query = query_of(alloc, prefix)?;
-    let table = segment.table();
+// The numbers of the documents, the owners, and the most paths of a document.
+fn push_table(told: &mut String, table: &SegTable) -> Result<(), AllocError> {
+    push_numbers(told, table)?;
+    push_owners(told, table.owners())?;
+    write!(told, " / {} /", table.most_paths())
+}
+
+fn push_answer(told: &mut String, ops: &str, prefix: &str) -> Result<(), Fail> {
+    let segment = segment_of(*told.allocator(), ops)?;
+    let query = query_of(*told.allocator(), prefix)?;
+    push_table(told, segment.table())?;
+    push_starts(told, &segment, &query)?;
+    Ok(())
+}
+
+fn push_row(told: &mut String, row: &str) -> Result<(), Fail> {
+    let Some((front, given)) = given(row) else {
+        return Err("no answer".into());
+    };
+    let Some((ops, prefix)) = given.split_once('|') else {
+        return Err("no prefix".into());
+    };
+    write!(told, "{front}|")?;
+    push_answer(told, ops, prefix)?;
+    told.push_str("\n")?;
+    Ok(())
+}
+
+fn rows_again(alloc: Global) -> Result<String, Fail> {
     let mut told = String::new(alloc);
-    push_numbers(&mut told, table)?;
-    push_owners(&mut told, table.owners())?;
-    write!(told, " | {} |", table.most_paths())?;
-    push_starts(&mut told, &segment, &query)?;
+    for row in ROWS.lines() {
+        push_row(&mut told, row)?;
+    }
     Ok(told)
 }
 
 #[test]
 fn a_batch_gives_its_documents_owners_and_starts(rt: HostRuntime) -> Result<(), Fail> {
-    for row in ROWS.lines() {
-        let (name, rest) = row.split_once(": ").ok_or("no name")?;
-        let (spelled, wanted) = rest.split_once(" => ").ok_or("no answer")?;
-        let (ops, prefix) = spelled.split_once(" / ").ok_or("no prefix")?;
-        let told = shown(rt.alloc(), ops, prefix)?;
-        assert_eq!(rt; told.as_str(), wanted, "{name}");
-    }
+    let told = rows_again(rt.alloc())?;
+    assert_same(&rt, told.as_str(), ROWS);
     Ok(())
 }
