@@ -1,7 +1,8 @@
 //! How runs end.
+use crate::table::{assert_same, given};
 use sg_base::Text;
 use sg_edge::{MemorySink, MemorySource, StdSink, StdSource};
-use sg_shell::{Status, run};
+use sg_shell::run;
 use std::alloc::Global;
 use std::io;
 use std::io::Write;
@@ -15,7 +16,8 @@ const INPUT: &str = r#"{"op":"add","id":"fr1","suggest":[{"input":"Paris","weigh
 
 // Arguments, each behind a plus; the takes and the puts that fail; and how the run then ends: with
 // how many bytes of input left, and how many written.
-const ENDS: &str = "all goes well|+run|||Done, 0 left, 111 written
+const ENDS: &str = "\
+all goes well|+run|||Done, 0 left, 111 written
 no argument||||Usage, 97 left, 0 written
 another word|+walk|||Usage, 97 left, 0 written
 two words|+run+run|||Usage, 97 left, 0 written
@@ -31,7 +33,8 @@ the take at the end fails|+run|3||ReadFault, 0 left, 0 written
 a take and a put fail|+run|2|1|ReadFault, 31 left, 0 written
 a take behind the end|+run|4||Done, 0 left, 111 written
 the first put fails|+run||1|WriteFault, 0 left, 0 written
-a put that isn't made|+run||9|Done, 0 left, 111 written";
+a put that isn't made|+run||9|Done, 0 left, 111 written
+";
 
 fn words_of(alloc: Global, spelled: &str) -> Result<Vec<Text>, Fail> {
     let mut words = Vec::new(alloc);
@@ -49,51 +52,86 @@ fn numbers_of(alloc: Global, spelled: &str) -> Result<Vec<u64>, Fail> {
     Ok(numbers)
 }
 
-// How a run ends, as it is told in the table.
-fn end_of(
+fn source_of(alloc: Global, takes: &str) -> Result<MemorySource, Fail> {
+    let takes = numbers_of(alloc, takes)?;
+    let input = INPUT.as_bytes().to_vec(alloc)?;
+    Ok(MemorySource::new(input, true, takes))
+}
+
+// How a run ends.
+fn push_end(
+    told: &mut String,
     wait: &impl Wait,
-    alloc: Global,
     words: &str,
     takes: &str,
     puts: &str,
-) -> Result<String, Fail> {
+) -> Result<(), Fail> {
+    let alloc = *told.allocator();
     let words = words_of(alloc, words)?;
-    let input = INPUT.as_bytes().to_vec(alloc)?;
-    let mut source = MemorySource::new(input, true, numbers_of(alloc, takes)?);
+    let mut source = source_of(alloc, takes)?;
     let mut sink = MemorySink::new(numbers_of(alloc, puts)?);
     let status = run(wait, alloc, words.as_slice(), &mut source, &mut sink);
     let left = source.left().len();
     let written = sink.given().len();
-    Ok(format!(in alloc; "{status:?}, {left} left, {written} written")?)
+    write!(told, "|{status:?}, {left} left, {written} written\n")?;
+    Ok(())
+}
+
+// The words, the takes and the puts.
+fn run_parts(given: &str) -> Option<(&str, &str, &str)> {
+    let (words, faults) = given.split_once('|')?;
+    let (takes, puts) = faults.split_once('|')?;
+    Some((words, takes, puts))
+}
+
+fn push_row(told: &mut String, wait: &impl Wait, row: &str) -> Result<(), Fail> {
+    let Some((front, given)) = given(row) else {
+        return Err("no end".into());
+    };
+    let Some((words, takes, puts)) = run_parts(given) else {
+        return Err("no faults".into());
+    };
+    told.push_str(front)?;
+    push_end(told, wait, words, takes, puts)
+}
+
+fn rows_again(wait: &impl Wait, alloc: Global) -> Result<String, Fail> {
+    let mut told = String::new(alloc);
+    for row in ENDS.lines() {
+        push_row(&mut told, wait, row)?;
+    }
+    Ok(told)
 }
 
 #[test]
 fn each_end_has_its_status(rt: HostRuntime) -> Result<(), Fail> {
-    let alloc = rt.alloc();
-    for row in ENDS.lines() {
-        let (name, row) = row.split_once("|").ok_or("no name")?;
-        let (words, row) = row.split_once("|").ok_or("no words")?;
-        let (takes, row) = row.split_once("|").ok_or("no takes")?;
-        let (puts, wanted) = row.split_once("|").ok_or("no puts")?;
-        let end = end_of(&rt, alloc, words, takes, puts)?;
-        assert_eq!(rt; end.as_str(), wanted, "{name}");
-    }
+    let told = rows_again(&rt, rt.alloc())?;
+    assert_same(&rt, told.as_str(), ENDS);
+    Ok(())
+}
+
+// A source of 65,537 blanks whose second take fails.
+fn long_source(alloc: Global) -> Result<MemorySource, Fail> {
+    let takes = numbers_of(alloc, "2")?;
+    let input = vec![in alloc; b' '; 65_537]?;
+    Ok(MemorySource::new(input, false, takes))
+}
+
+fn push_long_end(told: &mut String, wait: &impl Wait) -> Result<(), Fail> {
+    let alloc = *told.allocator();
+    let words = words_of(alloc, "+run")?;
+    let mut source = long_source(alloc)?;
+    let mut sink = MemorySink::new(Vec::new(alloc));
+    let status = run(wait, alloc, words.as_slice(), &mut source, &mut sink);
+    write!(told, "{status:?}, {} left", source.left().len())?;
     Ok(())
 }
 
 #[test]
 fn a_take_has_room_for_65536_bytes(rt: HostRuntime) -> Result<(), Fail> {
-    let alloc = rt.alloc();
-    let words = words_of(alloc, "+run")?;
-    let mut source = MemorySource::new(
-        vec![in alloc; b' '; 65_537]?,
-        false,
-        numbers_of(alloc, "2")?,
-    );
-    let mut sink = MemorySink::new(Vec::new(alloc));
-    let status = run(&rt, alloc, words.as_slice(), &mut source, &mut sink);
-    assert_eq!(rt; status, Status::ReadFault);
-    assert_eq!(rt; source.left().len(), 1);
+    let mut told = String::new(rt.alloc());
+    push_long_end(&mut told, &rt)?;
+    assert_same(&rt, told.as_str(), "ReadFault, 1 left");
     Ok(())
 }
 
@@ -120,30 +158,35 @@ impl Write for Pipe {
     }
 }
 
-fn status_into(wait: &impl Wait, alloc: Global, pipe: Pipe) -> Result<Status, Fail> {
+fn push_status(told: &mut String, wait: &impl Wait, pipe: Pipe) -> Result<(), Fail> {
+    let alloc = *told.allocator();
     let words = words_of(alloc, "+run")?;
+    let room = pipe.room;
     let mut source = StdSource::new(INPUT.as_bytes());
     let mut sink = StdSink::new(pipe);
-    Ok(run(wait, alloc, words.as_slice(), &mut source, &mut sink))
+    let status = run(wait, alloc, words.as_slice(), &mut source, &mut sink);
+    write!(told, "{room} {status:?}\n")?;
+    Ok(())
+}
+
+// Where there is room for all replies, and for 20 bytes.
+fn push_statuses(told: &mut String, wait: &impl Wait, fails: bool) -> Result<(), Fail> {
+    let piece = 7;
+    for room in [111, 20] {
+        push_status(told, wait, Pipe { piece, room, fails })?;
+    }
+    Ok(())
 }
 
 #[test]
 fn a_writer_that_fails_is_a_write_fault(rt: HostRuntime) -> Result<(), Fail> {
-    let alloc = rt.alloc();
-    for fails in [false, true] {
-        let piece = 7;
-        let narrow = Pipe {
-            piece,
-            room: 111,
-            fails,
-        };
-        assert_eq!(rt; status_into(&rt, alloc, narrow)?, Status::Done);
-        let full = Pipe {
-            piece,
-            room: 20,
-            fails,
-        };
-        assert_eq!(rt; status_into(&rt, alloc, full)?, Status::WriteFault);
-    }
+    let mut told = String::new(rt.alloc());
+    push_statuses(&mut told, &rt, false)?;
+    push_statuses(&mut told, &rt, true)?;
+    assert_same(
+        &rt,
+        told.as_str(),
+        "111 Done\n20 WriteFault\n111 Done\n20 WriteFault\n",
+    );
     Ok(())
 }

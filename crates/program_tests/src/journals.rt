@@ -4,11 +4,14 @@ use sg_paths::{Document, Op, Suggestion};
 use std::alloc::Global;
 use std::test::Fail;
 
-fn document(alloc: Global, id: &str) -> Result<Document, Fail> {
+fn suggestion(alloc: Global) -> Result<Suggestion, Fail> {
     let text = Text::of(alloc, "a")?;
     let key = Key::of(Bytes::of(alloc, b"a")?)?;
-    let mut suggestions = Vec::new(alloc);
-    suggestions.push(Suggestion::new(text, key, 1, Vec::new(alloc))?)?;
+    Ok(Suggestion::new(text, key, 1, Vec::new(alloc))?)
+}
+
+fn document(alloc: Global, id: &str) -> Result<Document, Fail> {
+    let suggestions = vec![in alloc; suggestion(alloc)?]?;
     Ok(Document::new(Text::of(alloc, id)?, suggestions)?)
 }
 

@@ -13,4 +13,6 @@ mod plain_tests;
 #[cfg(test)]
 mod run_tests;
 #[cfg(test)]
+mod table;
+#[cfg(test)]
 mod view_tests;

@@ -1,8 +1,10 @@
 //! A run beside the plain program for live documents.
 use crate::journals::op_of;
-use crate::run_tests::output_of;
+use crate::run_tests::assert_last;
 use sg_paths::{Numbered, Op, live_documents_of};
-use std::alloc::Global;
+use std::alloc::{AllocError, Global};
+use std::process::Abort;
+use std::sync::Wait;
 use std::test::Fail;
 
 // Journals as they are spelled: `+x` adds, `=x` updates and `-x` deletes the id `x`. A query stands
@@ -20,7 +22,7 @@ const JOURNALS: &str = "+x
 fn journal_of(alloc: Global, spelled: &str) -> Result<Vec<Op>, Fail> {
     let mut journal = Vec::new(alloc);
     for word in spelled.split_whitespace() {
-        let (kind, id) = word.split_at_checked(1).ok_or("no kind")?;
+        let (kind, id) = kind_and_id(word);
         if kind != "|" {
             journal.push(op_of(alloc, kind, id)?)?;
         }
@@ -28,58 +30,74 @@ fn journal_of(alloc: Global, spelled: &str) -> Result<Vec<Op>, Fail> {
     Ok(journal)
 }
 
-fn line_of(alloc: Global, kind: &str, id: &str) -> Result<String, Fail> {
-    Ok(match kind {
-        "+" => format!(in alloc; "{{\"op\":\"add\",\"id\":\"{id}\",\"suggest\":\"a\"}}\n")?,
-        "=" => format!(in alloc; "{{\"op\":\"update\",\"id\":\"{id}\",\"suggest\":\"a\"}}\n")?,
-        "-" => format!(in alloc; "{{\"op\":\"delete\",\"id\":\"{id}\"}}\n")?,
-        _ => format!(in alloc; "{{\"op\":\"suggest\",\"prefix\":\"\",\"k\":1000}}\n")?,
-    })
+fn kind_and_id(word: &str) -> (&str, &str) {
+    word.split_at_checked(1).unwrap_or(("|", ""))
 }
 
-fn input_of(alloc: Global, spelled: &str) -> Result<String, Fail> {
+fn push_line(input: &mut String, kind: &str, id: &str) -> Result<(), AllocError> {
+    match kind {
+        "+" => write!(
+            input,
+            "{{\"op\":\"add\",\"id\":\"{id}\",\"suggest\":\"a\"}}\n"
+        ),
+        "=" => write!(
+            input,
+            "{{\"op\":\"update\",\"id\":\"{id}\",\"suggest\":\"a\"}}\n"
+        ),
+        "-" => write!(input, "{{\"op\":\"delete\",\"id\":\"{id}\"}}\n"),
+        _ => input.push_str("{\"op\":\"suggest\",\"prefix\":\"\",\"k\":1000}\n"),
+    }
+}
+
+fn input_of(alloc: Global, spelled: &str) -> Result<String, AllocError> {
     let mut input = String::new(alloc);
     for word in spelled.split_whitespace() {
-        let (kind, id) = word.split_at_checked(1).ok_or("no kind")?;
-        input.push_str(line_of(alloc, kind, id)?.as_str())?;
+        let (kind, id) = kind_and_id(word);
+        push_line(&mut input, kind, id)?;
     }
-    input.push_str(line_of(alloc, "|", "")?.as_str())?;
+    push_line(&mut input, "|", "")?;
     Ok(input)
 }
 
 // The rows of documents that all have one text and one weight: by number.
-fn rows_of(alloc: Global, live: &[Numbered]) -> Result<String, Fail> {
-    let mut rows = String::new(alloc);
+fn push_rows(reply: &mut String, live: &[Numbered]) -> Result<(), AllocError> {
+    let mut between = "";
     for numbered in live {
         let id = numbered.document.id.as_str();
         let seq = numbered.seq;
-        if !rows.is_empty() {
-            rows.push(',')?;
-        }
-        let row = format!(in alloc;
-            "{{\"id\":\"{id}\",\"score\":1,\"seq\":{seq},\"text\":\"a\"}}"
+        write!(
+            reply,
+            "{between}{{\"id\":\"{id}\",\"score\":1,\"seq\":{seq},\"text\":\"a\"}}"
         )?;
-        rows.push_str(row.as_str())?;
+        between = ",";
     }
-    Ok(rows)
+    Ok(())
+}
+
+fn push_reply(reply: &mut String, journal: &[Op], line: usize) -> Result<(), AllocError> {
+    let live = live_documents_of(*reply.allocator(), journal)?;
+    write!(reply, "{{\"complete\":true,\"line\":{line},\"rows\":[")?;
+    push_rows(reply, live.as_slice())?;
+    write!(reply, "],\"upto\":{}}}", journal.len())
+}
+
+fn reply_to_all(alloc: Global, spelled: &str, line: usize) -> Result<String, Fail> {
+    let journal = journal_of(alloc, spelled)?;
+    let mut reply = String::new(alloc);
+    push_reply(&mut reply, journal.as_slice(), line)?;
+    Ok(reply)
+}
+
+fn compare<R: Abort + Wait>(rt: &R, alloc: Global, spelled: &str) -> Result<(), Fail> {
+    let input = input_of(alloc, spelled)?;
+    let wanted = reply_to_all(alloc, spelled, input.lines().count())?;
+    assert_last(rt, alloc, input.as_bytes(), wanted.as_str())
 }
 
 #[test]
 fn a_query_over_all_finds_what_the_plain_program_finds(rt: HostRuntime) -> Result<(), Fail> {
-    let alloc = rt.alloc();
     for spelled in JOURNALS.lines() {
-        let journal = journal_of(alloc, spelled)?;
-        let live = live_documents_of(alloc, journal.as_slice())?;
-        let rows = rows_of(alloc, live.as_slice())?;
-        let input = input_of(alloc, spelled)?;
-        let line = input.lines().count();
-        let upto = journal.len();
-        let wanted = format!(in alloc;
-            "{{\"complete\":true,\"line\":{line},\"rows\":[{rows}],\"upto\":{upto}}}"
-        )?;
-        let output = output_of(&rt, alloc, input.as_bytes())?;
-        let last = output.lines().last().ok_or("no reply")?;
-        assert_eq!(rt; last, wanted.as_str(), "{spelled}");
+        compare(&rt, rt.alloc(), spelled)?;
     }
     Ok(())
 }
