@@ -4,4 +4,5 @@ mod check;
 mod examples;
 mod lists;
 mod model;
+mod same;
 mod texts;

@@ -2,6 +2,7 @@
 //! damaged.
 ghost use Rattle.std.specs.Prelude.{◌<◌, length};
 
+use crate::tests::same::assert_same;
 use crate::tests::texts::{
     FIRST, NO_NODE_BUT_A_PATH, NO_NODE_BUT_AN_ARC, NO_PATH, ONE_NODE, SECOND, SWAPPED, THIRD,
     UNREACHED, bytes_of,
@@ -11,51 +12,52 @@ use sg_base::{Bytes, NodeId, Plain, Steps};
 use std::alloc::{AllocError, Global};
 use std::test::Fail;
 
-fn push_answer(told: &mut String, bytes: &[u8], place: usize) -> Result<(), Fail> {
+fn push_answer(told: &mut String, bytes: &[u8], place: usize) -> Result<(), AllocError> {
     let bytes = Bytes::of(*told.allocator(), bytes)?;
     match Transducer::check(*told.allocator(), bytes) {
-        Ok(_) => told.push_str(" ok")?,
-        Err(CodeError::Bad { rule, at }) if at == place as u64 => write!(told, " {rule}@=")?,
-        Err(CodeError::Bad { rule, at }) => write!(told, " {rule}@{at}")?,
-        Err(CodeError::Memory) => return Err("no memory".into()),
+        Ok(_) => told.push_str(" ok"),
+        Err(CodeError::Bad { rule, at }) if at == place as u64 => write!(told, " {rule}@="),
+        Err(CodeError::Bad { rule, at }) => write!(told, " {rule}@{at}"),
+        Err(CodeError::Memory) => told.push_str(" no memory"),
     }
-    Ok(())
 }
 
-fn push_text(told: &mut String, text: &str) -> Result<(), Fail> {
+fn push_text(told: &mut String, text: &str) -> Result<(), AllocError> {
     let bytes = bytes_of(*told.allocator(), text)?;
     push_answer(told, bytes.as_slice(), 0)
 }
 
-#[test]
-fn texts_that_are_taken(rt: HostRuntime) -> Result<(), Fail> {
-    let mut told = String::new(rt.alloc());
-    push_text(&mut told, FIRST)?;
-    push_text(&mut told, THIRD)?;
-    push_text(&mut told, NO_PATH)?;
-    assert_eq!(rt; told.as_str(), " ok ok ok");
-    Ok(())
+fn push_taken(told: &mut String) -> Result<(), AllocError> {
+    push_text(told, FIRST)?;
+    push_text(told, THIRD)?;
+    push_text(told, NO_PATH)
+}
+
+// Equal nodes, another numbering, and a node that isn't reached.
+fn push_wrong_nodes(told: &mut String) -> Result<(), AllocError> {
+    push_text(told, SECOND)?;
+    push_text(told, SWAPPED)?;
+    push_text(told, UNREACHED)
+}
+
+// No node but an arc or a path, and one node.
+fn push_wrong_counts(told: &mut String) -> Result<(), AllocError> {
+    push_text(told, NO_NODE_BUT_AN_ARC)?;
+    push_text(told, NO_NODE_BUT_A_PATH)?;
+    push_text(told, ONE_NODE)
 }
 
 #[test]
-fn equal_nodes_another_numbering_and_a_node_that_is_not_reached(
-    rt: HostRuntime,
-) -> Result<(), Fail> {
+fn texts_that_are_taken_and_texts_that_break_a_rule(rt: HostRuntime) -> Result<(), Fail> {
     let mut told = String::new(rt.alloc());
-    push_text(&mut told, SECOND)?;
-    push_text(&mut told, SWAPPED)?;
-    push_text(&mut told, UNREACHED)?;
-    assert_eq!(rt; told.as_str(), " 8@24 12@20 12@24");
-    Ok(())
-}
-
-#[test]
-fn no_node_but_an_arc_or_a_path_and_one_node(rt: HostRuntime) -> Result<(), Fail> {
-    let mut told = String::new(rt.alloc());
-    push_text(&mut told, NO_NODE_BUT_AN_ARC)?;
-    push_text(&mut told, NO_NODE_BUT_A_PATH)?;
-    push_text(&mut told, ONE_NODE)?;
-    assert_eq!(rt; told.as_str(), " 4@8 4@12 4@4");
+    push_taken(&mut told)?;
+    push_wrong_nodes(&mut told)?;
+    push_wrong_counts(&mut told)?;
+    assert_same(
+        &rt,
+        told.as_str(),
+        " ok ok ok 8@24 12@20 12@24 4@8 4@12 4@4",
+    );
     Ok(())
 }
 
@@ -164,7 +166,7 @@ const DAMAGES_OF_THIRD: &str = "\
 96: 7@12 6@93 6@93 7@12
 ";
 
-fn push_damage(told: &mut String, bytes: &[u8], place: usize, value: u8) -> Result<(), Fail>
+fn push_damage(told: &mut String, bytes: &[u8], place: usize, value: u8) -> Result<(), AllocError>
     requires { place < length bytes.now }
 {
     let mut changed = Vec::from_slice(*told.allocator(), bytes)?;
@@ -172,7 +174,7 @@ fn push_damage(told: &mut String, bytes: &[u8], place: usize, value: u8) -> Resu
     push_answer(told, changed.as_slice(), place)
 }
 
-fn damages_at(alloc: Global, bytes: &[u8], place: usize) -> Result<String, Fail>
+fn damages_at(alloc: Global, bytes: &[u8], place: usize) -> Result<String, AllocError>
     requires { place < length bytes.now }
 {
     let byte = bytes[place];
@@ -184,7 +186,12 @@ fn damages_at(alloc: Global, bytes: &[u8], place: usize) -> Result<String, Fail>
 }
 
 // A line where the answers are others than the last ones.
-fn push_change(told: &mut String, last: &mut String, at: usize, row: String) -> Result<(), Fail> {
+fn push_change(
+    told: &mut String,
+    last: &mut String,
+    at: usize,
+    row: String,
+) -> Result<(), AllocError> {
     if row.as_str() != last.as_str() {
         write!(told, "{at}:{row}\n")?;
         *last = row;
@@ -192,7 +199,7 @@ fn push_change(told: &mut String, last: &mut String, at: usize, row: String) -> 
     Ok(())
 }
 
-fn damages_of(alloc: Global, text: &str) -> Result<String, Fail> {
+fn damages_of(alloc: Global, text: &str) -> Result<String, AllocError> {
     let bytes = bytes_of(alloc, text)?;
     let mut told = String::new(alloc);
     let mut last = String::new(alloc);
@@ -206,21 +213,36 @@ fn damages_of(alloc: Global, text: &str) -> Result<String, Fail> {
 #[test]
 fn each_damage_breaks_its_rule(rt: HostRuntime) -> Result<(), Fail> {
     let told = damages_of(rt.alloc(), FIRST)?;
-    assert_eq!(rt; told.as_str(), DAMAGES_OF_FIRST);
+    assert_same(&rt, told.as_str(), DAMAGES_OF_FIRST);
     let told = damages_of(rt.alloc(), THIRD)?;
-    assert_eq!(rt; told.as_str(), DAMAGES_OF_THIRD);
+    assert_same(&rt, told.as_str(), DAMAGES_OF_THIRD);
     Ok(())
 }
 
+fn answer_to_front(alloc: Global, bytes: &[u8], count: usize) -> Result<String, AllocError>
+    requires { count < length bytes.now }
+{
+    let mut told = String::new(alloc);
+    push_answer(&mut told, &bytes[..count], count)?;
+    Ok(told)
+}
+
+fn cuts_of(alloc: Global, text: &str) -> Result<String, AllocError> {
+    let bytes = bytes_of(alloc, text)?;
+    let mut told = String::new(alloc);
+    let mut last = String::new(alloc);
+    for count in 0..bytes.len() {
+        let row = answer_to_front(alloc, bytes.as_slice(), count)?;
+        push_change(&mut told, &mut last, count, row)?;
+    }
+    Ok(told)
+}
+
+// The rule is the first up to 15 bytes, and the third from there on.
 #[test]
 fn each_cut_of_the_first_example_is_short(rt: HostRuntime) -> Result<(), Fail> {
-    let bytes = bytes_of(rt.alloc(), FIRST)?;
-    for count in 0..bytes.len() {
-        let mut told = String::new(rt.alloc());
-        push_answer(&mut told, &bytes[..count], count)?;
-        let wanted = if count < 16 { " 1@=" } else { " 3@=" };
-        assert_eq!(rt; told.as_str(), wanted, "{count} bytes");
-    }
+    let told = cuts_of(rt.alloc(), FIRST)?;
+    assert_same(&rt, told.as_str(), "0: 1@=\n16: 3@=\n");
     Ok(())
 }
 
@@ -240,18 +262,25 @@ fn chain_of(alloc: Global, nodes: u32) -> Result<Vec<u8>, AllocError> {
     Ok(bytes)
 }
 
+fn push_chain(told: &mut String, nodes: u32) -> Result<(), AllocError> {
+    let chain = chain_of(*told.allocator(), nodes)?;
+    push_answer(told, chain.as_slice(), 0)
+}
+
 #[test]
 fn a_path_has_at_most_324_labels(rt: HostRuntime) -> Result<(), Fail> {
     let mut told = String::new(rt.alloc());
-    push_answer(&mut told, chain_of(rt.alloc(), 325)?.as_slice(), 0)?;
-    push_answer(&mut told, chain_of(rt.alloc(), 326)?.as_slice(), 0)?;
-    assert_eq!(rt; told.as_str(), " ok 11@1316");
+    push_chain(&mut told, 325)?;
+    push_chain(&mut told, 326)?;
+    assert_same(&rt, told.as_str(), " ok 11@1316");
     Ok(())
 }
 
 // A node's arcs: label, cost, ordinal offset and target.
 fn push_node(told: &mut String, transducer: &Transducer, id: u32) -> Result<(), Fail> {
-    let root = transducer.root().ok_or("no root")?;
+    let Some(root) = transducer.root() else {
+        return Err("no root".into());
+    };
     if id > root.0 {
         return Err("no such node".into());
     }
@@ -268,24 +297,30 @@ fn push_node(told: &mut String, transducer: &Transducer, id: u32) -> Result<(), 
     Ok(())
 }
 
+fn push_two_nodes(told: &mut String, text: &str) -> Result<(), Fail> {
+    let bytes = Bytes::from_vec(bytes_of(*told.allocator(), text)?);
+    let transducer = Transducer::check(*told.allocator(), bytes)?;
+    push_node(told, &transducer, 2)?;
+    push_node(told, &transducer, 1)
+}
+
 #[test]
 fn a_view_shows_the_arcs_of_a_node(rt: HostRuntime) -> Result<(), Fail> {
-    let bytes = Bytes::from_vec(bytes_of(rt.alloc(), FIRST)?);
-    let transducer = Transducer::check(rt.alloc(), bytes)?;
     let mut told = String::new(rt.alloc());
-    push_node(&mut told, &transducer, 2)?;
-    push_node(&mut told, &transducer, 1)?;
-    assert_eq!(rt; told.as_str(), "97 3 0 1;98 2 0 0;99 0 1 0;");
+    push_two_nodes(&mut told, FIRST)?;
+    assert_same(&rt, told.as_str(), "97 3 0 1;98 2 0 0;99 0 1 0;");
     Ok(())
 }
 
 #[test]
 fn an_error_says_the_rule_and_the_offset(rt: HostRuntime) -> Result<(), Fail> {
     let bad = CodeError::Bad { rule: 8, at: 24 };
-    let line = format!(in rt.alloc(); "{bad}, {}", CodeError::Memory)?;
-    assert_eq!(rt;
-        line.as_str(),
-        "the bytes break rule 8 at 24, out of memory"
+    let mut told = String::new(rt.alloc());
+    write!(told, "{bad}, {}", CodeError::Memory)?;
+    assert_same(
+        &rt,
+        told.as_str(),
+        "the bytes break rule 8 at 24, out of memory",
     );
     Ok(())
 }

@@ -4,7 +4,6 @@ use crate::{Row, transducer_of};
 use fst_code::Transducer;
 use sg_base::Bytes;
 use std::alloc::Global;
-use std::process::Abort;
 use std::test::Fail;
 
 /// Lists with a blank line between them. A list's first line has its numbers of nodes and arcs,
@@ -84,17 +83,28 @@ fn same(one: &Row, other: &Row) -> bool {
     one.path.as_slice() == other.path.as_slice() && one.cost == other.cost
 }
 
-/// Builds the transducer of the rows, checks its bytes, and compares what a walk over it meets.
-fn compare(rt: &impl Abort, alloc: Global, rows: &[Row], counts: (u32, u32)) -> Result<(), Fail> {
-    let transducer = built(alloc, rows)?;
-    assert!(rt; counts_of(transducer.bytes()) == Some(counts));
-    assert!(rt; transducer.paths() as usize == rows.len());
-    let found = rows_of(alloc, &transducer)?;
-    assert!(rt; found.len() == rows.len());
-    for (one, other) in found.iter().zip(rows) {
-        assert!(rt; same(one, other));
+fn are_same(found: &[Row], rows: &[Row]) -> bool {
+    if found.len() != rows.len() {
+        return false;
     }
-    Ok(())
+    for (one, other) in found.iter().zip(rows) {
+        if !same(one, other) {
+            return false;
+        }
+    }
+    true
+}
+
+/// Whether the transducer of the rows has these numbers of nodes and arcs, and a walk over it meets
+/// the rows. It is built, and its bytes are checked.
+fn comes_back(alloc: Global, rows: &[Row], counts: (u32, u32)) -> Result<bool, Fail> {
+    let transducer = built(alloc, rows)?;
+    let found = rows_of(alloc, &transducer)?;
+    Ok(
+        counts_of(transducer.bytes()) == Some(counts)
+            && transducer.paths() as usize == rows.len()
+            && are_same(found.as_slice(), rows),
+    )
 }
 
 fn counts_from(line: &str) -> Option<(u32, u32)> {
@@ -102,9 +112,15 @@ fn counts_from(line: &str) -> Option<(u32, u32)> {
     Some((nodes.parse().ok()?, arcs.parse().ok()?))
 }
 
+fn row_parts(line: &str) -> Option<(&str, u32)> {
+    let (path, cost) = line.split_once(' ')?;
+    Some((path, cost.parse::<u32>().ok()?))
+}
+
 fn row_from(alloc: Global, line: &str) -> Result<Row, Fail> {
-    let (path, cost) = line.split_once(' ').ok_or("no cost")?;
-    let cost = cost.parse::<u32>()?;
+    let Some((path, cost)) = row_parts(line) else {
+        return Err("no cost".into());
+    };
     let path = Vec::from_slice(alloc, path.as_bytes())?;
     Ok(Row { path, cost })
 }
@@ -117,32 +133,50 @@ fn rows_from(alloc: Global, lines: &str) -> Result<Vec<Row>, Fail> {
     Ok(rows)
 }
 
+fn list_parts(list: &str) -> Option<((u32, u32), &str)> {
+    let (counts, lines) = list.split_once('\n')?;
+    Some((counts_from(counts)?, lines))
+}
+
+fn list_comes_back(alloc: Global, list: &str) -> Result<bool, Fail> {
+    let Some((counts, lines)) = list_parts(list) else {
+        return Err("no list".into());
+    };
+    let rows = rows_from(alloc, lines)?;
+    comes_back(alloc, rows.as_slice(), counts)
+}
+
 #[test]
 fn lists_come_back_from_as_few_nodes_as_can_be(rt: HostRuntime) -> Result<(), Fail> {
     for list in LISTS.split("\n\n") {
-        let (counts, lines) = list.split_once('\n').ok_or("no list")?;
-        let counts = counts_from(counts).ok_or("no counts")?;
-        let rows = rows_from(rt.alloc(), lines)?;
-        compare(&rt, rt.alloc(), rows.as_slice(), counts)?;
+        let back = list_comes_back(rt.alloc(), list)?;
+        assert!(rt; back, "{list}");
     }
     Ok(())
 }
 
-/// Two paths of 324 bytes that differ in the last one, with the greatest cost and the least.
+/// A path of 324 bytes.
+fn push_long(rows: &mut Vec<Row>, last: u8, cost: u32) -> Result<(), Fail> {
+    let mut path = vec![in *rows.allocator(); b'a'; 323]?;
+    path.push(last)?;
+    rows.push(Row { path, cost })?;
+    Ok(())
+}
+
+/// Two that differ in the last byte, with the greatest cost and the least.
 fn long_rows(alloc: Global) -> Result<Vec<Row>, Fail> {
     let mut rows = Vec::new(alloc);
-    for (label, cost) in [(b'x', 2_147_483_647), (b'y', 0)] {
-        let mut path = vec![in alloc; b'a'; 323]?;
-        path.push(label)?;
-        rows.push(Row { path, cost })?;
-    }
+    push_long(&mut rows, b'x', 2_147_483_647)?;
+    push_long(&mut rows, b'y', 0)?;
     Ok(rows)
 }
 
 #[test]
 fn paths_may_have_324_bytes(rt: HostRuntime) -> Result<(), Fail> {
     let rows = long_rows(rt.alloc())?;
-    compare(&rt, rt.alloc(), rows.as_slice(), (325, 325))
+    let back = comes_back(rt.alloc(), rows.as_slice(), (325, 325))?;
+    assert!(rt; back);
+    Ok(())
 }
 
 fn push_wide(rows: &mut Vec<Row>, labels: &[u8], cost: u32) -> Result<(), Fail> {
@@ -175,5 +209,7 @@ fn wide_rows(alloc: Global) -> Result<Vec<Row>, Fail> {
 #[test]
 fn a_node_may_have_all_labels(rt: HostRuntime) -> Result<(), Fail> {
     let rows = wide_rows(rt.alloc())?;
-    compare(&rt, rt.alloc(), rows.as_slice(), (3, 512))
+    let back = comes_back(rt.alloc(), rows.as_slice(), (3, 512))?;
+    assert!(rt; back);
+    Ok(())
 }

@@ -2,7 +2,7 @@
 use crate::Row;
 use fst_code::Transducer;
 use sg_base::{Edge, NodeId, Plain, Steps};
-use std::alloc::Global;
+use std::alloc::{AllocError, Global};
 use std::test::Fail;
 
 /// A node on the way: the arc to take next, the cost so far, and how many paths came before.
@@ -31,38 +31,32 @@ fn push_row(walk: &mut Walk, cost: u32) -> Result<(), Fail> {
     Ok(())
 }
 
-/// Goes on by an arc, which says how many paths come before it.
-fn push_edge(walk: &mut Walk, step: Step, edge: Edge) -> Result<(), Fail> {
-    let before = walk.rows.len();
-    if step.before.checked_add(edge.before as usize) != Some(before) {
-        return Err("an arc says another number of paths before it".into());
+/// The step behind an arc, which says how many paths come before it.
+fn step_by(step: Step, edge: Edge, before: usize) -> Option<Step> {
+    if step.before.checked_add(edge.before as usize)? != before {
+        return None;
     }
-    let cost = step
-        .cost
-        .checked_add(edge.cost)
-        .ok_or("a cost is too great")?;
-    let at = step.at.saturating_add(1);
-    walk.steps.push(Step { at, ..step })?;
-    walk.path.push(edge.label)?;
-    walk.steps.push(Step {
+    Some(Step {
         node: edge.target,
         at: 0,
-        cost,
+        cost: step.cost.checked_add(edge.cost)?,
         before,
-    })?;
+    })
+}
+
+fn push_edge(walk: &mut Walk, step: Step, edge: Edge) -> Result<(), Fail> {
+    let Some(next) = step_by(step, edge, walk.rows.len()) else {
+        return Err("an arc says another number of paths before it, or too great a cost".into());
+    };
+    let at = step.at.saturating_add(1);
+    walk.steps.push(Step { at, ..step })?;
+    walk.steps.push(next)?;
+    walk.path.push(edge.label)?;
     Ok(())
 }
 
-fn go(walk: &mut Walk, transducer: &Transducer, step: Step) -> Result<(), Fail> {
-    let root = transducer.root().ok_or("no root")?;
-    if step.node.0 > root.0 {
-        return Err("an arc leads past the root".into());
-    }
-    let mut counter = Steps::new(Plain);
-    let node = transducer.node(step.node, &mut counter);
-    if step.at < node.len() {
-        return push_edge(walk, step, node.edge(step.at));
-    }
+/// A node without arcs is the end of a path.
+fn leave(walk: &mut Walk, step: Step) -> Result<(), Fail> {
     if step.node.0 == 0 {
         push_row(walk, step.cost)?;
     }
@@ -70,22 +64,48 @@ fn go(walk: &mut Walk, transducer: &Transducer, step: Step) -> Result<(), Fail> 
     Ok(())
 }
 
-/// All paths in the order in which a walk meets them, with the sums of their arcs' costs. Each arc
-/// says how many paths come before it.
-pub fn rows_of(alloc: Global, transducer: &Transducer) -> Result<Vec<Row>, Fail> {
-    let mut walk = Walk {
+fn go(walk: &mut Walk, transducer: &Transducer, step: Step) -> Result<(), Fail> {
+    let Some(root) = transducer.root() else {
+        return Err("no root".into());
+    };
+    if step.node.0 > root.0 {
+        return Err("an arc leads past the root".into());
+    }
+    let mut counter = Steps::new(Plain);
+    let node = transducer.node(step.node, &mut counter);
+    if step.at < node.len() {
+        push_edge(walk, step, node.edge(step.at))
+    } else {
+        leave(walk, step)
+    }
+}
+
+fn new_walk(alloc: Global) -> Walk {
+    Walk {
         rows: Vec::new(alloc),
         path: Vec::new(alloc),
         steps: Vec::new(alloc),
-    };
-    if let Some(node) = transducer.root() {
-        walk.steps.push(Step {
-            node,
-            at: 0,
-            cost: 0,
-            before: 0,
-        })?;
     }
+}
+
+fn begin(walk: &mut Walk, transducer: &Transducer) -> Result<(), AllocError> {
+    let Some(node) = transducer.root() else {
+        return Ok(());
+    };
+    walk.steps.push(Step {
+        node,
+        at: 0,
+        cost: 0,
+        before: 0,
+    })?;
+    Ok(())
+}
+
+/// All paths in the order in which a walk meets them, with the sums of their arcs' costs. Each arc
+/// says how many paths come before it.
+pub fn rows_of(alloc: Global, transducer: &Transducer) -> Result<Vec<Row>, Fail> {
+    let mut walk = new_walk(alloc);
+    begin(&mut walk, transducer)?;
     for _ in 0..MOST_STEPS {
         let Some(step) = walk.steps.pop() else {
             return Ok(walk.rows);
